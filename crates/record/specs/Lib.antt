@@ -1,0 +1,3 @@
+pub mod Command
+pub mod Kind
+pub mod Kitty
