@@ -1,2 +1,4 @@
 pub mod Conflicts
 pub mod KittyLaws
+pub mod PairLaws
+pub mod ClosingBookLaws

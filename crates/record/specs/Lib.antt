@@ -1,3 +1,5 @@
 pub mod Command
 pub mod Kind
 pub mod Kitty
+pub mod Pair
+pub mod ClosingBook
