@@ -1,4 +1,13 @@
+pub mod AdjustLoop
+pub mod CardLaws
+pub mod ClosingBookLaws
+pub mod CodedLaws
+pub mod Codes
 pub mod Conflicts
 pub mod KittyLaws
 pub mod PairLaws
-pub mod ClosingBookLaws
+pub mod Placing
+pub mod PostLoop
+pub mod RoundsLaws
+pub mod Tables
+pub mod TellLoop

@@ -1,5 +1,9 @@
+pub mod Card
+pub mod ClosingBook
+pub mod Coded
 pub mod Command
 pub mod Kind
 pub mod Kitty
 pub mod Pair
-pub mod ClosingBook
+pub mod Rounds
+pub mod Table

@@ -4,3 +4,4 @@ pub mod command;
 pub mod kitty;
 pub mod pair;
 pub mod record;
+pub mod rounds;
