@@ -1,0 +1,10 @@
+use Prim.Native.Nat.{_+_}
+use mathlib.Core.Path.{_≡_}
+use lib.ListN.{drop}
+use Rattle.transcript.specs.Leading.{leading}
+use Rattle.transcript.specs.Words.{is-blank}
+use Rattle.transcript.proofs.words.blanks.Given as given
+
+-- the bytes passed, and what is left of the run
+abbrev pub Inv-loop-i : given.InvT-loop-i
+Inv-loop-i l = l .i + leading is-blank (drop (l .i) (l .line)) ≡ leading is-blank (l .line)

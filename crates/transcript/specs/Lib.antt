@@ -1,0 +1,10 @@
+pub mod Leading
+pub mod Cuts
+pub mod Lines
+pub mod Words
+pub mod Chains
+pub mod Numbers
+pub mod CommandLine
+pub mod Playing
+pub mod Telling
+pub mod Transcript
