@@ -32,32 +32,32 @@ module _ (K : Kind) (p : Laws K) where
 
   -- the book after a command, by what the command is and whether the book is open
   still : (turn close live : Bool) (s : ℕ) (l m : List ℕ) → leb s 1 ≡ true → K .taking .tells l ≡ true →
-    (turn ≡ false → K .taking .tells m ≡ true) →
-    closing-tells K (cond turn (cond close 1 0 ∷ l) (cond live (s ∷ m) (s ∷ l))) ≡ true
+      (turn ≡ false → K .taking .tells m ≡ true) →
+      closing-tells K (cond turn (cond close 1 0 ∷ l) (cond live (s ∷ m) (s ∷ l))) ≡ true
   still true true live s l m a b below = b
   still true false live s l m a b below = b
   still false close true s l m a b below = and-from (leb s 1) (K .taking .tells m) a (below refl)
   still false close false s l m a b below = and-from (leb s 1) (K .taking .tells l) a b
 
   keeps : (l : List ℕ) (c : Command) → closing-tells K l ≡ true → closing-lawful K c ≡ true →
-    closing-tells K (closing-after K l c) ≡ true
+      closing-tells K (closing-after K l c) ≡ true
   keeps [] c e m = absurd (false≢true e)
   keeps (s ∷ l) c e m =
-    let h = and-parts (leb s 1) (K .taking .tells l) e in
-    still (turns c) (closes c) (eqb s 0) s l (K .taking .after l c) (h .0) (h .1)
+      let h = and-parts (leb s 1) (K .taking .tells l) e in
+      still (turns c) (closes c) (eqb s 0) s l (K .taking .after l c) (h .0) (h .1)
       (λ (t : turns c ≡ false). p .steady .keeps l c (h .1) (rw t at m))
 
   -- where neither command turns the book, both go below or neither
   commute : (l : List ℕ) (c d : Command) → closing-tells K l ≡ true → turns c ≡ false → turns d ≡ false →
-    K .taking .lawful c ≡ true → K .taking .lawful d ≡ true → K .conflicts c d ≡ false →
-    closing-after K (closing-after K l c) d ≡ closing-after K (closing-after K l d) c
+      K .taking .lawful c ≡ true → K .taking .lawful d ≡ true → K .conflicts c d ≡ false →
+      closing-after K (closing-after K l c) d ≡ closing-after K (closing-after K l d) c
   commute [] c d e t u m n h = refl
   commute (s ∷ l) c d e t u m n h =
-    let k = and-parts (leb s 1) (K .taking .tells l) e .1 in
-    ⊎-elim
-    (λ (z : eqb s 0 ≡ true). simp (t, u, z) (ap (λ (x : List ℕ). s ∷ x) (p .commute l c d k m n h)))
-    (λ (z : eqb s 0 ≡ false). simp (t, u, z))
-    (cases-bool (eqb s 0))
+      let k = and-parts (leb s 1) (K .taking .tells l) e .1 in
+      ⊎-elim
+      (λ (z : eqb s 0 ≡ true). simp (t, u, z) (ap (λ (x : List ℕ). s ∷ x) (p .commute l c d k m n h)))
+      (λ (z : eqb s 0 ≡ false). simp (t, u, z))
+      (cases-bool (eqb s 0))
 
   pub closing-laws : Laws (closing-kind K)
   closing-laws = record {
@@ -65,7 +65,7 @@ module _ (K : Kind) (p : Laws K) where
     symmetric = λ c d. turns-either-way (turns c) (turns d) _ _ (p .symmetric c d);
     unlawful = λ c d e. unlawful-below (turns c) (turns d) _ (K .taking .lawful c) (K .conflicts c d) e (p .unlawful c d);
     commute = λ l c d e m n h.
-      let a = or-parts (turns c) (turns d || K .conflicts c d) h in
-      let b = or-parts (turns d) (K .conflicts c d) (a .1) in
-      commute l c d e (a .0) (b .0) (rw (a .0) at m) (rw (b .0) at n) (b .1);
+        let a = or-parts (turns c) (turns d || K .conflicts c d) h in
+        let b = or-parts (turns d) (K .conflicts c d) (a .1) in
+        commute l c d e (a .0) (b .0) (rw (a .0) at m) (rw (b .0) at n) (b .1);
   }

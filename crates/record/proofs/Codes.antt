@@ -11,7 +11,8 @@ use Rattle.std.proofs.shelf.Signed.{ints}
 use Rattle.std.proofs.shelf.Lists.{take-at, drop-at, length-append, length-replicate}
 use Rattle.std.proofs.shelf.Tests.{and-parts}
 use Rattle.record.specs.Card.{between, in-range, all-in-range, is-card, are-cards}
-use Rattle.record.specs.Rounds.{raised, lowered, pairs, encode-card, encode-cards, unpaired, decode-card, decode-cards}
+use Rattle.record.specs.Rounds.{raised, lowered, pairs, encode-card, encode-cards, unpaired, decode-card}
+use Rattle.record.specs.Rounds.{decode-cards}
 use Rattle.record.specs.declared.rounds.card.Round.{Round}
 use Rattle.record.proofs.CardLaws.{card-parts}
 
@@ -22,9 +23,9 @@ lowered-raised (negsuc n) e = grind (arith, tells, ints)
 unpaired-pairs : (rs : List Round) (z : List ℕ) → all-in-range rs ≡ true → unpaired (length rs) (pairs rs ++ z) ≡ rs
 unpaired-pairs [] z e = refl
 unpaired-pairs (r ∷ rs) z e =
-  let h = and-parts (in-range r) (all-in-range rs) e in
-  ap (λ (a : ℤ). record { day = r .day; amount = a } ∷ unpaired (length rs) (pairs rs ++ z)) (lowered-raised (r .amount) (h .0))
-  ∙ ap (λ (t : List Round). r ∷ t) (unpaired-pairs rs z (h .1))
+    let h = and-parts (in-range r) (all-in-range rs) e in
+    ap (λ (a : ℤ). record { day = r .day; amount = a } ∷ unpaired (length rs) (pairs rs ++ z)) (lowered-raised (r .amount) (h .0))
+    ∙ ap (λ (t : List Round). r ∷ t) (unpaired-pairs rs z (h .1))
 
 length-pairs : (rs : List Round) → length (pairs rs) ≡ 2 * length rs
 length-pairs [] = refl
@@ -39,16 +40,16 @@ decode-more a b k w = rw (take-at a b 41 w, drop-at a b 41 w)
 pub cards-back : (ts : List (List Round)) → are-cards ts ≡ true → decode-cards (length ts) (encode-cards ts) ≡ ts
 cards-back [] e = refl
 cards-back (t ∷ ts) e =
-  let h = and-parts (is-card t) (are-cards ts) e in
-  let k = card-parts t (h .0) in
-  decode-more (encode-card t) (encode-cards ts) (length ts) (card-width t (k .0))
-  ∙ ap (λ (u : List Round). u ∷ decode-cards (length ts) (encode-cards ts)) (unpaired-pairs t _ (k .2))
-  ∙ ap (λ (us : List (List Round)). t ∷ us) (cards-back ts (h .1))
+    let h = and-parts (is-card t) (are-cards ts) e in
+    let k = card-parts t (h .0) in
+    decode-more (encode-card t) (encode-cards ts) (length ts) (card-width t (k .0))
+    ∙ ap (λ (u : List Round). u ∷ decode-cards (length ts) (encode-cards ts)) (unpaired-pairs t _ (k .2))
+    ∙ ap (λ (us : List (List Round)). t ∷ us) (cards-back ts (h .1))
 
 pub cards-width : (ts : List (List Round)) → are-cards ts ≡ true → length (encode-cards ts) ≡ 41 * length ts
 cards-width [] e = refl
 cards-width (t ∷ ts) e =
-  let h = and-parts (is-card t) (are-cards ts) e in
-  let w = card-width t (card-parts t (h .0) .0) in
-  let r = cards-width ts (h .1) in
-  length-append (encode-card t) (encode-cards ts) ∙ omega arith
+    let h = and-parts (is-card t) (are-cards ts) e in
+    let w = card-width t (card-parts t (h .0) .0) in
+    let r = cards-width ts (h .1) in
+    length-append (encode-card t) (encode-cards ts) ∙ omega arith

@@ -9,7 +9,8 @@ use lib.ListN.{length}
 use Rattle.std.proofs.shelf.Ways.{tells}
 use Rattle.std.proofs.shelf.Tests.{and-parts, or-parts, false≢true}
 use Rattle.record.specs.Kind.{Laws}
-use Rattle.record.specs.Kitty.{pays, draws, of-kitty, whole, balance-after, kitty-lawful, kitty-after, kitty-tells, kitty-conflicts, kitty-kind}
+use Rattle.record.specs.Kitty.{pays, draws, of-kitty, whole, balance-after, kitty-lawful, kitty-after, kitty-tells}
+use Rattle.record.specs.Kitty.{kitty-conflicts, kitty-kind}
 use Rattle.record.specs.declared.command.Command.{Command}
 use Rattle.record.proofs.Conflicts.{either-way}
 
@@ -35,16 +36,16 @@ pays-else : (c : Command) → kitty-lawful c ≡ true → draws c ≡ false → 
 pays-else c p no-draw = let h = and-parts (pays c || draws c) (of-kitty c) p .0 in grind (arith, tells)
 
 payments-commute : (l : List ℕ) (c d : Command) → pays c ≡ true → pays d ≡ true →
-  kitty-after (kitty-after l c) d ≡ kitty-after (kitty-after l d) c
+    kitty-after (kitty-after l c) d ≡ kitty-after (kitty-after l d) c
 payments-commute [] c d p q = refl
 payments-commute (b ∷ l) c d p q =
-  let e : balance-after (balance-after b c) d ≡ balance-after (balance-after b d) c =
+    let e : balance-after (balance-after b c) d ≡ balance-after (balance-after b d) c =
     simp (p, q) (paid-twice b (whole (c .amount)) (whole (d .amount))) in
-  ap (λ (x : ℕ). x ∷ l) e
+    ap (λ (x : ℕ). x ∷ l) e
 
 neither-draws : (c d : Command) → kitty-conflicts c d ≡ false → (draws c ≡ false) × (draws d ≡ false)
 neither-draws c d n =
-  or-parts (draws c) (draws d) (or-parts (not (kitty-lawful c && kitty-lawful d)) (draws c || draws d) n .1)
+    or-parts (draws c) (draws d) (or-parts (not (kitty-lawful c && kitty-lawful d)) (draws c || draws d) n .1)
 
 pub kitty-laws : Laws kitty-kind
 kitty-laws = record {
@@ -52,6 +53,6 @@ kitty-laws = record {
   symmetric = λ c d. either-way (kitty-lawful c) (kitty-lawful d) _ _ (or-comm (draws c) (draws d));
   unlawful = λ c d e. rw e;
   commute = λ l c d e p q n.
-    let no = neither-draws c d n in
-    payments-commute l c d (pays-else c p (no .0)) (pays-else d q (no .1));
+      let no = neither-draws c d n in
+      payments-commute l c d (pays-else c p (no .0)) (pays-else d q (no .1));
 }

@@ -23,17 +23,17 @@ use Rattle.record.proofs.RoundsLaws.{rounds-runs}
 
 pub sound-parts : (t : Card) → card-sound t ≡ true → (length (t .rounds) ≡ 20) × (t .count ≤ 20) × (is-card (kept t) ≡ true)
 sound-parts t e =
-  let h = and-parts (eqb (length (t .rounds)) 20) (leb (t .count) 20 && is-card (kept t)) e in
-  let k = and-parts (leb (t .count) 20) (is-card (kept t)) (h .1) in
-  (eqb-true (length (t .rounds)) 20 (h .0), leb-true (t .count) 20 (k .0), k .1)
+    let h = and-parts (eqb (length (t .rounds)) 20) (leb (t .count) 20 && is-card (kept t)) e in
+    let k = and-parts (leb (t .count) 20) (is-card (kept t)) (h .1) in
+    (eqb-true (length (t .rounds)) 20 (h .0), leb-true (t .count) 20 (k .0), k .1)
 
 -- the card after a command: what it keeps is what the command makes of what it kept
 pub changed-sound : (c : Command) (t u : Card) → rounds-lawful c ≡ true → card-sound t ≡ true →
-  kept u ≡ card-after c (kept t) → length (u .rounds) ≡ 20 → u .count ≤ 20 → card-sound u ≡ true
+    kept u ≡ card-after c (kept t) → length (u .rounds) ≡ 20 → u .count ≤ 20 → card-sound u ≡ true
 changed-sound c t u p s e a b =
-  and-from (eqb (length (u .rounds)) 20) (leb (u .count) 20 && is-card (kept u)) (eq-eqb (length (u .rounds)) 20 a)
+    and-from (eqb (length (u .rounds)) 20) (leb (u .count) 20 && is-card (kept u)) (eq-eqb (length (u .rounds)) 20 a)
     (and-from (leb (u .count) 20) (is-card (kept u)) (le-leb (u .count) 20 b)
-      (ap is-card e ∙ after-card c (kept t) p (sound-parts t s .2)))
+    (ap is-card e ∙ after-card c (kept t) p (sound-parts t s .2)))
 
 -- what a lawful command that does not post adjusts by
 pub adjusts-by : (c : Command) → rounds-lawful c ≡ true → eqb (c .verb) 1 ≡ false → between (negsuc 99) (pos 100) (c .amount) ≡ true
@@ -54,13 +54,13 @@ sound-set : (ts : List Card) (i : ℕ) (u : Card) → cards-sound ts ≡ true �
 sound-set [] i u e f = refl
 sound-set (t ∷ ts) zero u e f = and-from (card-sound u) (cards-sound ts) f (and-parts (card-sound t) (cards-sound ts) e .1)
 sound-set (t ∷ ts) (suc i) u e f =
-  let h = and-parts (card-sound t) (cards-sound ts) e in
-  and-from (card-sound t) (cards-sound (set ts i u)) (h .0) (sound-set ts i u (h .1) f)
+    let h = and-parts (card-sound t) (cards-sound ts) e in
+    and-from (card-sound t) (cards-sound (set ts i u)) (h .0) (sound-set ts i u (h .1) f)
 
 pub table-set : (ts : List Card) (i : ℕ) (u : Card) → table-sound ts ≡ true → card-sound u ≡ true → table-sound (set ts i u) ≡ true
 table-set ts i u e f =
-  let k = table-parts ts e in
-  and-from (eqb (length (set ts i u)) 8) (cards-sound (set ts i u))
+    let k = table-parts ts e in
+    and-from (eqb (length (set ts i u)) 8) (cards-sound (set ts i u))
     (eq-eqb (length (set ts i u)) 8 (length-set ts i u ∙ k .0)) (sound-set ts i u (k .1) f)
 
 kept-length : (ts : List Card) → length (all-kept ts) ≡ length ts
@@ -70,8 +70,8 @@ kept-length (t ∷ ts) = ap suc (kept-length ts)
 kept-cards : (ts : List Card) → cards-sound ts ≡ true → are-cards (all-kept ts) ≡ true
 kept-cards [] e = refl
 kept-cards (t ∷ ts) e =
-  let h = and-parts (card-sound t) (cards-sound ts) e in
-  and-from (is-card (kept t)) (are-cards (all-kept ts)) (sound-parts t (h .0) .2) (kept-cards ts (h .1))
+    let h = and-parts (card-sound t) (cards-sound ts) e in
+    and-from (is-card (kept t)) (are-cards (all-kept ts)) (sound-parts t (h .0) .2) (kept-cards ts (h .1))
 
 kept-set : (ts : List Card) (i : ℕ) (u : Card) → all-kept (set ts i u) ≡ set (all-kept ts) i (kept u)
 kept-set [] i u = refl
@@ -85,8 +85,8 @@ kept-at (t ∷ ts) (suc i) = kept-at ts i
 
 kept-valid : (ts : List Card) → table-sound ts ≡ true → rounds-machine .valid (all-kept ts) ≡ true
 kept-valid ts e =
-  let k = table-parts ts e in
-  and-from (eqb (length (all-kept ts)) 8) (are-cards (all-kept ts))
+    let k = table-parts ts e in
+    and-from (eqb (length (all-kept ts)) 8) (are-cards (all-kept ts))
     (eq-eqb (length (all-kept ts)) 8 (kept-length ts ∙ k .0)) (kept-cards ts (k .1))
 
 pub table-tells : (ts : List Card) → table-sound ts ≡ true → rounds-kind .taking .tells (encode-cards (all-kept ts)) ≡ true
@@ -94,9 +94,9 @@ table-tells ts e = code-tells rounds-machine rounds-runs (all-kept ts) (kept-val
 
 -- the told list once the player's card has changed as the command has it
 pub told-after : (ts : List Card) (c : Command) (u : Card) → table-sound ts ≡ true →
-  kept u ≡ card-after c (kept (getD ts (c .subject) no-card)) →
-  encode-cards (all-kept (set ts (c .subject) u)) ≡ rounds-kind .taking .after (encode-cards (all-kept ts)) c
+    kept u ≡ card-after c (kept (getD ts (c .subject) no-card)) →
+    encode-cards (all-kept (set ts (c .subject) u)) ≡ rounds-kind .taking .after (encode-cards (all-kept ts)) c
 told-after ts c u e k =
-  ap encode-cards (kept-set ts (c .subject) u
+    ap encode-cards (kept-set ts (c .subject) u
     ∙ ap (set (all-kept ts) (c .subject)) (k ∙ ap (card-after c) (sym (kept-at ts (c .subject)))))
-  ∙ ap (λ (z : List (List Round)). encode-cards (cards-after z c)) (sym (rounds-runs .back (all-kept ts) (kept-valid ts e)))
+    ∙ ap (λ (z : List (List Round)). encode-cards (cards-after z c)) (sym (rounds-runs .back (all-kept ts) (kept-valid ts e)))

@@ -25,7 +25,7 @@ no-amount (negsuc n) = false
 -- a turn is lawful with subject, day and amount 0; the record below judges all else
 abbrev pub closing-lawful : Kind → Command → Bool
 closing-lawful K c =
-  cond (turns c) (eqb (c .subject) 0 && (eqb (c .day) 0 && no-amount (c .amount))) (K .taking .lawful c)
+    cond (turns c) (eqb (c .subject) 0 && (eqb (c .day) 0 && no-amount (c .amount))) (K .taking .lawful c)
 
 -- a turn conflicts with every command
 abbrev pub closing-conflicts : Kind → Command → Command → Bool
@@ -35,7 +35,7 @@ closing-conflicts K c d = turns c || (turns d || K .conflicts c d)
 abbrev pub closing-after : Kind → List ℕ → Command → List ℕ
 closing-after K [] c = []
 closing-after K (s ∷ l) c =
-  cond (turns c) (cond (closes c) 1 0 ∷ l) (cond (eqb s 0) (s ∷ K .taking .after l c) (s ∷ l))
+    cond (turns c) (cond (closes c) 1 0 ∷ l) (cond (eqb s 0) (s ∷ K .taking .after l c) (s ∷ l))
 
 abbrev pub closing-tells : Kind → List ℕ → Bool
 closing-tells K [] = false

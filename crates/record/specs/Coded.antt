@@ -52,4 +52,4 @@ pub record Runs {S : Type 0} (M : Machine S) : Type 0 where
   pub symmetric : (c d : Command) → M .conflicts c d ≡ M .conflicts d c
   pub unlawful : (c d : Command) → M .lawful c ≡ false → M .conflicts c d ≡ true
   pub commute : (s : S) (c d : Command) → M .valid s ≡ true → M .lawful c ≡ true → M .lawful d ≡ true →
-    M .conflicts c d ≡ false → M .step (M .step s c) d ≡ M .step (M .step s d) c
+      M .conflicts c d ≡ false → M .step (M .step s c) d ≡ M .step (M .step s d) c

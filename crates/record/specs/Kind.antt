@@ -38,8 +38,8 @@ pub record Laws (K : Kind) : Type 0 where
   pub symmetric : (c d : Command) → K .conflicts c d ≡ K .conflicts d c
   pub unlawful : (c d : Command) → K .taking .lawful c ≡ false → K .conflicts c d ≡ true
   pub commute : (l : List ℕ) (c d : Command) → K .taking .tells l ≡ true →
-    K .taking .lawful c ≡ true → K .taking .lawful d ≡ true → K .conflicts c d ≡ false →
-    K .taking .after (K .taking .after l c) d ≡ K .taking .after (K .taking .after l d) c
+      K .taking .lawful c ≡ true → K .taking .lawful d ≡ true → K .conflicts c d ≡ false →
+      K .taking .after (K .taking .after l c) d ≡ K .taking .after (K .taking .after l d) c
 
 -- A lawful command is taken and makes the next list; an unlawful one gets 10 and leaves the list.
 abbrev pub Taken : Taking → Command → Result (Unit {0}) Unlawful → List ℕ → List ℕ → Type 0

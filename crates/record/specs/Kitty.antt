@@ -30,7 +30,7 @@ whole (negsuc n) = 0
 -- paying in stops at the largest balance; a draw needs its amount, or else leaves the balance
 abbrev pub balance-after : ℕ → Command → ℕ
 balance-after b c =
-  cond (pays c) (min (b + whole (c .amount)) 4294967295) (cond (leb (whole (c .amount)) b) (b - whole (c .amount)) b)
+    cond (pays c) (min (b + whole (c .amount)) 4294967295) (cond (leb (whole (c .amount)) b) (b - whole (c .amount)) b)
 
 abbrev pub kitty-after : List ℕ → Command → List ℕ
 kitty-after [] c = []

@@ -22,7 +22,7 @@ pair-lawful L R c = cond (is-left c) (L .taking .lawful (at-side c)) (R .taking 
 -- two commands for one side conflict if they do there; for two sides they never do
 abbrev pub sides-conflict : Kind → Kind → Command → Command → Bool
 sides-conflict L R c d =
-  cond (is-left c)
+    cond (is-left c)
     (cond (is-left d) (L .conflicts (at-side c) (at-side d)) false)
     (cond (is-left d) false (R .conflicts (at-side c) (at-side d)))
 
@@ -34,7 +34,7 @@ right-part L l = drop (L .taking .size) l
 
 abbrev pub pair-after : Kind → Kind → List ℕ → Command → List ℕ
 pair-after L R l c =
-  cond (is-left c)
+    cond (is-left c)
     (L .taking .after (left-part L l) (at-side c) ++ right-part L l)
     (left-part L l ++ R .taking .after (right-part L l) (at-side c))
 

@@ -9,6 +9,7 @@ use std::alloc::AllocError;
 use std::alloc::Global;
 
 const OPEN: u8 = 254;
+
 const CLOSE: u8 = 255;
 
 // Closing book: a record that takes no commands while it is closed.
@@ -31,7 +32,10 @@ pub impl<B: Record> Record for ClosingBook<B> as ClosingBookRecord {
     ghost told = { λ b. cond (b .closed) 1 0 ∷ B·Record .told (b .below) };
 
     fn new() -> Self {
-        ClosingBook { closed: false, below: B::new() }
+        ClosingBook {
+            closed: false,
+            below: B::new(),
+        }
     }
 
     fn is_lawful(command: Command) -> bool {
@@ -54,7 +58,11 @@ pub impl<B: Record> Record for ClosingBook<B> as ClosingBookRecord {
             self.closed = command.verb == CLOSE;
             return Ok(());
         }
-        if self.closed { Ok(()) } else { self.below.take(command) }
+        if self.closed {
+            Ok(())
+        } else {
+            self.below.take(command)
+        }
     }
 
     fn tell(&self, heap: Global) -> Result<Vec<u32>, AllocError> {

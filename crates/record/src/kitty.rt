@@ -9,7 +9,9 @@ use std::alloc::AllocError;
 use std::alloc::Global;
 
 const PAY: u8 = 1;
+
 const DRAW: u8 = 2;
+
 const MOST: i16 = 30_000;
 
 // Kitty: common money, told as its balance.

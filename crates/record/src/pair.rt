@@ -25,7 +25,12 @@ fn left_is_meant(command: Command) -> bool
 fn for_side(command: Command) -> Command
     ensures { λ r. ⌜ r ≡ at-side command ⌝ }
 {
-    Command { verb: command.verb, subject: command.subject / 2, day: command.day, amount: command.amount }
+    Command {
+        verb: command.verb,
+        subject: command.subject / 2,
+        day: command.day,
+        amount: command.amount,
+    }
 }
 
 pub impl<L: Record, R: Record> Record for Pair<L, R> as PairRecord {
@@ -34,11 +39,18 @@ pub impl<L: Record, R: Record> Record for Pair<L, R> as PairRecord {
     ghost told = { λ p. L·Record .told (p .left) ++ R·Record .told (p .right) };
 
     fn new() -> Self {
-        Pair { left: L::new(), right: R::new() }
+        Pair {
+            left: L::new(),
+            right: R::new(),
+        }
     }
 
     fn is_lawful(command: Command) -> bool {
-        if left_is_meant(command) { L::is_lawful(for_side(command)) } else { R::is_lawful(for_side(command)) }
+        if left_is_meant(command) {
+            L::is_lawful(for_side(command))
+        } else {
+            R::is_lawful(for_side(command))
+        }
     }
 
     fn in_conflict(a: Command, b: Command) -> bool {
@@ -53,7 +65,11 @@ pub impl<L: Record, R: Record> Record for Pair<L, R> as PairRecord {
     }
 
     fn take(&mut self, command: Command) -> Result<(), Unlawful> {
-        if left_is_meant(command) { self.left.take(for_side(command)) } else { self.right.take(for_side(command)) }
+        if left_is_meant(command) {
+            self.left.take(for_side(command))
+        } else {
+            self.right.take(for_side(command))
+        }
     }
 
     fn tell(&self, heap: Global) -> Result<Vec<u32>, AllocError> {

@@ -2,12 +2,17 @@
 use record::command::Command;
 use record::record::Record;
 
-pub fn command(verb: u8, subject: u16, day: u16, amount: i16) -> Command {
-    Command { verb, subject, day, amount }
+pub(crate) fn command(verb: u8, subject: u16, day: u16, amount: i16) -> Command {
+    Command {
+        verb,
+        subject,
+        day,
+        amount,
+    }
 }
 
 // A new record once it has been given the commands in turn; unlawful ones leave it.
-pub fn after<R: Record>(commands: &[Command]) -> R {
+pub(crate) fn after<R: Record>(commands: &[Command]) -> R {
     let mut state = R::new();
     for command in commands {
         let _ = state.take(*command);

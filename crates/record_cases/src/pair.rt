@@ -13,6 +13,7 @@ use record::rounds::record::RoundsRecord;
 use std::test::*;
 
 type Kitties = Pair<Kitty, Kitty>;
+
 type Club = Pair<Kitty, ClosingBook<Rounds>>;
 
 #[test]
@@ -22,7 +23,15 @@ fn even_subjects_go_left_and_odd_ones_right(rt: LibcRuntime) -> Result<(), Fail>
         (&[command(1, 0, 0, 5)], [5, 0]),
         (&[command(1, 1, 0, 5)], [0, 5]),
         // subjects 2 and 3 are subject 1 on their sides, which a kitty has not
-        (&[command(1, 0, 0, 9), command(1, 2, 0, 5), command(1, 3, 0, 5), command(2, 0, 0, 4)], [5, 0]),
+        (
+            &[
+                command(1, 0, 0, 9),
+                command(1, 2, 0, 5),
+                command(1, 3, 0, 5),
+                command(2, 0, 0, 4),
+            ],
+            [5, 0],
+        ),
     ];
     for (commands, balances) in cases {
         let told = after::<Kitties>(commands).tell(rt.alloc())?;
@@ -48,7 +57,12 @@ fn two_sides_never_conflict() -> Result<(), Fail> {
 // Player 3 of the right is subject 7 of the pair; the book is turned by subject 1.
 #[test]
 fn a_kitty_beside_a_closing_book_over_rounds(rt: LibcRuntime) -> Result<(), Fail> {
-    let commands = [command(1, 0, 0, 50), command(1, 7, 100, -4), command(255, 1, 0, 0), command(1, 7, 101, 6)];
+    let commands = [
+        command(1, 0, 0, 50),
+        command(1, 7, 100, -4),
+        command(255, 1, 0, 0),
+        command(1, 7, 101, 6),
+    ];
     let told = after::<Club>(&commands).tell(rt.alloc())?;
     check(told.len() == 330)?;
     check_eq(told[0], 50)?;

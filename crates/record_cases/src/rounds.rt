@@ -16,11 +16,31 @@ fn adjust(player: u16, amount: i16) -> Command {
 
 #[test]
 fn later_days_first_and_lower_amounts_first(rt: LibcRuntime) -> Result<(), Fail> {
-    let commands = [post(2, 5, 7), post(2, 9, 3), post(2, 5, -7), post(2, 9, 3), post(2, 0, 999)];
+    let commands = [
+        post(2, 5, 7),
+        post(2, 9, 3),
+        post(2, 5, -7),
+        post(2, 9, 3),
+        post(2, 0, 999),
+    ];
     let told = after::<Rounds>(&commands).tell(rt.alloc())?;
     check(told.len() == 328)?;
     let card = 2 * 41;
-    let want = [5, 9, 10_003, 9, 10_003, 5, 9_993, 5, 10_007, 0, 10_999, 0, 0];
+    let want = [
+        5,
+        9,
+        10_003,
+        9,
+        10_003,
+        5,
+        9_993,
+        5,
+        10_007,
+        0,
+        10_999,
+        0,
+        0,
+    ];
     check_eq(&told[card..card + 13], &want)?;
     check_eq(told[0], 0)
 }

@@ -18,9 +18,9 @@ ghost use Rattle.std.specs.declared.option.Option.the-variants.{None};
 ghost use Rattle.transcript.specs.Transcript.{text-by-choice, transcript-of};
 use command_line::choice_of;
 use lines::next_line;
-use whole::played_text;
 use std::alloc::AllocError;
 use std::alloc::Global;
+use whole::played_text;
 
 // What is printed if the first line names no kind of record.
 fn no_kind(heap: Global) -> Result<String, AllocError>

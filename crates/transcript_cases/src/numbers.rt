@@ -28,7 +28,10 @@ fn a_command_is_four_numbers_in_range(rt: LibcRuntime) -> Result<(), Fail> {
     ];
     for (input, is_command) in cases {
         let text = transcript(rt.alloc(), input)?;
-        check_eq(text.as_str().starts_with("line 2: no command\n"), !is_command)?;
+        check_eq(
+            text.as_str().starts_with("line 2: no command\n"),
+            !is_command,
+        )?;
     }
     Ok(())
 }

@@ -25,7 +25,10 @@ fn adjust_round(round: Round, by: i16) -> Round
     } else {
         sum
     };
-    Round { day: round.day, amount }
+    Round {
+        day: round.day,
+        amount,
+    }
 }
 
 // Adds the adjustment to each kept round.

@@ -9,7 +9,9 @@ use super::post::post;
 use crate::command::Command;
 
 const POST: u8 = 1;
+
 const ADJUST: u8 = 2;
+
 const PLAYERS: u16 = 8;
 
 // Whether the command names a player and posts or adjusts within the limits.
@@ -39,7 +41,13 @@ pub(super) fn change(card: &mut Card, command: Command)
     ensures sound { λ _. ⌜ card-sound (now (card .exit)) ≡ true ⌝ }
 {
     if command.verb == POST {
-        post(card, Round { day: command.day, amount: command.amount });
+        post(
+            card,
+            Round {
+                day: command.day,
+                amount: command.amount,
+            },
+        );
     } else {
         adjust(card, command.amount);
     }

@@ -20,7 +20,10 @@ pub impl Record for Rounds as RoundsRecord {
 
     fn new() -> Self {
         let round = Round { day: 0, amount: 0 };
-        let card = Card { count: 0, rounds: [round; 20] };
+        let card = Card {
+            count: 0,
+            rounds: [round; 20],
+        };
         Rounds { cards: [card; 8] }
     }
 

@@ -23,7 +23,8 @@ fn raise(amount: i16) -> u32
 // Tells day and amount of each round.
 fn tell_pairs(list: &mut Vec<u32>, rounds: &[Round]) -> Result<(), AllocError>
     requires { ⌜ all-in-range (now rounds) ≡ true ⌝ }
-    ensures { λ r. ⌜ made r (λ _. vec-items (now (list .exit)) ≡ vec-items (now (list .entry)) ++ pairs (now (rounds .entry))) ⌝ }
+    ensures { λ r. ⌜ made r (λ _. vec-items (now (list .exit)) ≡
+        vec-items (now (list .entry)) ++ pairs (now (rounds .entry))) ⌝ }
 {
     for round in rounds {
         list.push(u32::from(round.day))?;
@@ -32,8 +33,10 @@ fn tell_pairs(list: &mut Vec<u32>, rounds: &[Round]) -> Result<(), AllocError>
     Ok(())
 }
 
+// Tells so many zeros.
 fn tell_zeros(list: &mut Vec<u32>, count: usize) -> Result<(), AllocError>
-    ensures { λ r. ⌜ made r (λ _. vec-items (now (list .exit)) ≡ vec-items (now (list .entry)) ++ replicate count 0) ⌝ }
+    ensures { λ r. ⌜ made r (λ _. vec-items (now (list .exit)) ≡
+        vec-items (now (list .entry)) ++ replicate count 0) ⌝ }
 {
     for i in 0..count {
         list.push(0)?;
@@ -44,7 +47,8 @@ fn tell_zeros(list: &mut Vec<u32>, count: usize) -> Result<(), AllocError>
 // Tells a card in 41 numbers: the count, the kept rounds, and zeros for the unused ones.
 pub(super) fn tell_card(list: &mut Vec<u32>, card: &Card) -> Result<(), AllocError>
     requires { ⌜ card-sound (now card) ≡ true ⌝ }
-    ensures { λ r. ⌜ made r (λ _. vec-items (now (list .exit)) ≡ vec-items (now (list .entry)) ++ encode-card (kept (now (card .entry)))) ⌝ }
+    ensures { λ r. ⌜ made r (λ _. vec-items (now (list .exit)) ≡
+        vec-items (now (list .entry)) ++ encode-card (kept (now (card .entry)))) ⌝ }
 {
     let count = card.count;
     list.push(count as u32)?;

@@ -9,7 +9,7 @@ returns-then-left-is-meant g c =
     let n = m .laws .steady .sized _ (m .tellable (s .left)) in
     let t = rw (c .for-side .ensures) at (c .take .ensures) in
     taken-left (g .L·Record .kind) (g .R·Record .kind) (g .L·Record .told (s .left)) (g .R·Record .told (s .right)) n
-      _ (c .args .command) _ (sym (c .left-is-meant .ensures) ∙ c .if-left-is-meant .taken) t
+    _ (c .args .command) _ (sym (c .left-is-meant .ensures) ∙ c .if-left-is-meant .taken) t
 
 pub returns-else-left-is-meant : need.returns-else-left-is-meant
 returns-else-left-is-meant g c =
@@ -18,4 +18,4 @@ returns-else-left-is-meant g c =
     let n = m .laws .steady .sized _ (m .tellable (s .left)) in
     let t = rw (c .for-side-else-left-is-meant .ensures) at (c .take-else-left-is-meant .ensures) in
     taken-right (g .L·Record .kind) (g .R·Record .kind) (g .L·Record .told (s .left)) (g .R·Record .told (s .right)) n
-      _ (c .args .command) _ (sym (c .left-is-meant .ensures) ∙ c .if-left-is-meant .left) t
+    _ (c .args .command) _ (sym (c .left-is-meant .ensures) ∙ c .if-left-is-meant .left) t

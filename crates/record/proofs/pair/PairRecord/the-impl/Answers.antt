@@ -9,4 +9,4 @@ tellable-law g x =
     let m = g .L·Record·met in
     let t = m .tellable (x .left) in
     both-tell (g .L·Record .kind) (g .R·Record .kind) (g .L·Record .told (x .left)) (g .R·Record .told (x .right))
-      (m .laws .steady .sized _ t) t (g .R·Record·met .tellable (x .right))
+    (m .laws .steady .sized _ t) t (g .R·Record·met .tellable (x .right))

@@ -20,9 +20,10 @@ adjust-round-round-requires c κs =
     let n = c .args .card .now .count in
     let a = c .loop-i .inv .0 in
     let b = c .pre .0 in
-    let fits : n ≤ length xs = omega arith in
-    (range-here (c .loop-i .i) n xs (c .loop-i-test .taken) fits (c .loop-i .inv .3) .0,
-      rw (toZ-ofZ w16 (c .args .by) (c .fits .by)) (c .pre .3))
+    let fits : n ≤ length xs = omega arith in (
+      range-here (c .loop-i .i) n xs (c .loop-i-test .taken) fits (c .loop-i .inv .3) .0,
+      rw (toZ-ofZ w16 (c .args .by) (c .fits .by)) (c .pre .3),
+    )
 
 pub loop-i-again : need.loop-i-again
 loop-i-again c =
@@ -35,10 +36,12 @@ loop-i-again c =
     let lt = c .loop-i-test .taken in
     let by = toZ w16 (ofZ w16 (c .args .by)) in
     let y = c .adjust-round-round .result in
-    let done = c .adjust-round-round .ensures in
-    (length-set xs (c .loop-i .i) y ∙ a, inv .1,
+    let done = c .adjust-round-round .ensures in (
+      length-set xs (c .loop-i .i) y ∙ a,
+      inv .1,
       adjusted-next (c .loop-i .i) n xs lt fits by y _ (done .day) (done .amount) (inv .2),
-      range-next (c .loop-i .i) n xs lt fits y (inv .3))
+      range-next (c .loop-i .i) n xs lt fits y (inv .3),
+    )
 
 pub returns : need.returns
 returns c =
@@ -51,7 +54,7 @@ returns c =
     let e = adjusted-end n (c .loop-i .i) xs _ (toZ w16 (ofZ w16 (c .args .by))) (c .loop-i-test .left) fits (inv .2) in
     record {
       after = ap (λ (k : ℕ). take k xs) (inv .1) ∙ e
-        ∙ ap (λ (z : ℤ). adjusted z (kept (c .args .card .now))) (toZ-ofZ w16 (c .args .by) (c .fits .by));
+          ∙ ap (λ (z : ℤ). adjusted z (kept (c .args .card .now))) (toZ-ofZ w16 (c .args .by) (c .fits .by));
       count = inv .1;
-      width = a
+      width = a;
     }

@@ -31,7 +31,7 @@ returns-then-command-eq-POST c =
     let e : kept u ≡ card-after (c .args .command) (kept t) = rw v (simp toZ-ofZ at (c .post .ensures .after)) in
     record {
       after = e;
-      sound = changed-sound (c .args .command) t u (c .pre .1) (c .pre .0) e (c .post .ensures .width) (c .post .ensures .bound)
+      sound = changed-sound (c .args .command) t u (c .pre .1) (c .pre .0) e (c .post .ensures .width) (c .post .ensures .bound);
     }
 
 pub returns-else-command-eq-POST : need.returns-else-command-eq-POST
@@ -43,9 +43,9 @@ returns-else-command-eq-POST c =
     let k = sound-parts t (c .pre .0) in
     let b = k .1 in
     let e : kept u ≡ card-after (c .args .command) (kept t) =
-      rw v (c .adjust .ensures .after ∙ ap (λ (z : ℤ). adjusted z (kept t)) (toZ-ofZ w16 (c .args .command .amount) f)) in
+    rw v (c .adjust .ensures .after ∙ ap (λ (z : ℤ). adjusted z (kept t)) (toZ-ofZ w16 (c .args .command .amount) f)) in
     record {
       after = e;
       sound = changed-sound (c .args .command) t u (c .pre .1) (c .pre .0) e (c .adjust .ensures .width)
-        (omega (arith, c .adjust .ensures .count))
+          (omega (arith, c .adjust .ensures .count));
     }

@@ -20,12 +20,17 @@ loop-i-again c =
     let lt = c .loop-i-test .taken in
     let carried = c .loop-i .carried in
     elim (c .if-is-ahead .came) [
-      then-is-ahead w ↦ rw (w .card-is, w .carried-is)
-        (length-set xs (c .loop-i .i) carried ∙ a, inv .1,
-          stays-here (c .loop-i .i) n xs lt fits carried _ (sym (c .is-ahead .ensures) ∙ w .if-is-ahead .taken) (inv .2))
-    | else-is-ahead w ↦ rw (w .card-is, w .carried-is)
-        (a, inv .1,
-          goes-on (c .loop-i .i) n xs lt fits carried _ (sym (c .is-ahead .ensures) ∙ w .if-is-ahead .left) (inv .2)) ]
+      | then-is-ahead w ↦ rw (w .card-is, w .carried-is) (
+        length-set xs (c .loop-i .i) carried ∙ a,
+        inv .1,
+        stays-here (c .loop-i .i) n xs lt fits carried _ (sym (c .is-ahead .ensures) ∙ w .if-is-ahead .taken) (inv .2),
+      )
+      | else-is-ahead w ↦ rw (w .card-is, w .carried-is) (
+        a,
+        inv .1,
+        goes-on (c .loop-i .i) n xs lt fits carried _ (sym (c .is-ahead .ensures) ∙ w .if-is-ahead .left) (inv .2),
+      )
+    ]
 
 pub returns-then-count-lt20 : need.returns-then-count-lt20
 returns-then-count-lt20 c =
@@ -38,7 +43,7 @@ returns-then-count-lt20 c =
     record {
       after = room-left n xs (c .args .round) (c .loop-i .carried) _ (c .if-count-lt20 .taken) lt e;
       bound = omega arith;
-      width = length-set xs n (c .loop-i .carried) ∙ a
+      width = length-set xs n (c .loop-i .carried) ∙ a;
     }
 
 pub returns-else-count-lt20 : need.returns-else-count-lt20
@@ -54,5 +59,5 @@ returns-else-count-lt20 c =
     record {
       after = ap (λ (k : ℕ). take k xs) b ∙ no-room n xs (c .args .round) (c .loop-i .carried) _ full le e;
       bound = omega arith;
-      width = a
+      width = a;
     }

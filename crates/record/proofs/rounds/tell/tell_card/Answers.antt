@@ -16,5 +16,5 @@ returns c =
     let le : t .count ≤ length (t .rounds) = omega arith in
     let z : t .count - 0 ≡ t .count = omega arith in
     card-told t (vec-items (c .args .list .now)) (vec-items (c .push .last .self)) (vec-items (c .tell-pairs .last .list))
-      (vec-items (c .tell-zeros .last .list)) le
-      (c .in-Continue-push .ensures tt .items) (simp z at (c .in-Continue-tell-pairs .ensures tt)) (c .in-Continue-tell-zeros .ensures tt)
+    (vec-items (c .tell-zeros .last .list)) le
+    (c .in-Continue-push .ensures tt .items) (simp z at (c .in-Continue-tell-pairs .ensures tt)) (c .in-Continue-tell-zeros .ensures tt)

@@ -30,13 +30,14 @@ loop-round-again c =
     let v1 = vec-items (c .push .last .self) in
     let v2 = vec-items (c .push-in-loop-round .last .self) in
     let a : v1 ≡ v ++ (r .day ∷ []) =
-      c .in-Continue-push .ensures tt .items ∙ ap (λ (k : ℕ). v ++ (k ∷ [])) (c .from .ensures) in
+    c .in-Continue-push .ensures tt .items ∙ ap (λ (k : ℕ). v ++ (k ∷ [])) (c .from .ensures) in
     let b : v2 ≡ v1 ++ (raised (r .amount) ∷ []) =
-      c .in-Continue-push-2 .ensures tt .items
-      ∙ ap (λ (k : ℕ). v1 ++ (k ∷ [])) (c .raise .ensures ∙ ap raised (toZ-ofZ w16 (r .amount) f)) in
-    (range-at rs i lt (c .loop-round .inv .0) .1,
+    c .in-Continue-push-2 .ensures tt .items
+    ∙ ap (λ (k : ℕ). v1 ++ (k ∷ [])) (c .raise .ensures ∙ ap raised (toZ-ofZ w16 (r .amount) f)) in (
+      range-at rs i lt (c .loop-round .inv .0) .1,
       told-next pairs (r .day ∷ (raised (r .amount) ∷ [])) rs i no-round v v2 _ lt refl (two-told v v1 v2 _ _ a b)
-        (c .loop-round .inv .1))
+          (c .loop-round .inv .1),
+    )
 
 pub returns : need.returns
 returns c = told-all pairs (c .args .rounds .now) (c .loop-round .round-index) _ _ refl (c .loop-round-test .left) (c .loop-round .inv .1)

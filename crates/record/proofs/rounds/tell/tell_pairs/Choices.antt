@@ -9,5 +9,5 @@ use Rattle.record.proofs.rounds.tell.tell_pairs.Given as given
 
 abbrev pub Inv-loop-round : given.InvT-loop-round
 Inv-loop-round l =
-  (all-in-range (drop (l .round-index) (l .rounds)) ≡ true)
-  × (vec-items (l .list) ++ pairs (drop (l .round-index) (l .rounds)) ≡ vec-items (l .entry .list) ++ pairs (l .rounds))
+    (all-in-range (drop (l .round-index) (l .rounds)) ≡ true)
+    × (vec-items (l .list) ++ pairs (drop (l .round-index) (l .rounds)) ≡ vec-items (l .entry .list) ++ pairs (l .rounds))

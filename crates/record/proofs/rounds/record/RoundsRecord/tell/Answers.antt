@@ -27,7 +27,7 @@ loop-card-again c =
     let n = table-parts ts (c .args .self .now .sound) .0 in
     let lt : i < length ts = omega arith in
     told-next telling (encode-card (kept (getD ts i no-card))) ts i no-card (vec-items (c .loop-card .list))
-      (vec-items (c .tell-card .last .list)) _ lt refl (c .in-Continue-tell-card .ensures tt) (c .loop-card .inv)
+    (vec-items (c .tell-card .last .list)) _ lt refl (c .in-Continue-tell-card .ensures tt) (c .loop-card .inv)
 
 pub returns : need.returns
 returns c =

@@ -8,4 +8,4 @@ use Rattle.record.proofs.rounds.record.RoundsRecord.tell.Given as given
 
 abbrev pub Inv-loop-card : given.InvT-loop-card
 Inv-loop-card l =
-  vec-items (l .list) ++ encode-cards (all-kept (drop (l .card-index) (l .self .cards))) ≡ encode-cards (all-kept (l .self .cards))
+    vec-items (l .list) ++ encode-cards (all-kept (drop (l .card-index) (l .self .cards))) ≡ encode-cards (all-kept (l .self .cards))
