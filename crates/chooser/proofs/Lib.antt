@@ -1,0 +1,4 @@
+pub mod Apart
+pub mod Rules
+pub mod Standing
+pub mod Tables
