@@ -7,7 +7,8 @@ use mathlib.Core.Bool.{Bool, true, false, cond, not, _&&_, _||_}
 use mathlib.Core.List.{List, [], _∷_, _++_}
 use lib.Dec.{eqb, ltb}
 use lib.ListN.{length}
-use Rattle.std.proofs.shelf.Tests.{and-parts, and-from, or-parts, or-from, cases-bool, not-true, not-from-false, ltb-true, lt-ltb, eqb-true, eqb-false, ne-eqb}
+use Rattle.std.proofs.shelf.Tests.{and-parts, and-from, or-parts, or-from, cases-bool, not-true, not-from-false}
+use Rattle.std.proofs.shelf.Tests.{ltb-true, lt-ltb, eqb-true, eqb-false, ne-eqb}
 use Rattle.chooser.specs.Meaning.{has-proposed, no-proposal}
 use Rattle.chooser.specs.Table.{apart}
 use Rattle.chooser.specs.declared.proposal.Proposal.{Proposal}

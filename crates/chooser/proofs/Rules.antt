@@ -10,7 +10,8 @@ use lib.ListN.{length, getD, take, drop}
 use Rattle.std.specs.declared.option.Option.the-variants.{Some, None}
 use Rattle.std.specs.declared.result.Result.{Result}
 use Rattle.std.specs.declared.result.Result.the-variants.{Ok, Err}
-use Rattle.std.proofs.shelf.Lists.{at-drop-more, at-drop-all, length-take-le, take-append-le, getD-append-left, length-append}
+use Rattle.std.proofs.shelf.Lists.{at-drop-more, at-drop-all, length-take-le, take-append-le, getD-append-left}
+use Rattle.std.proofs.shelf.Lists.{length-append}
 use Rattle.std.proofs.shelf.Tests.{le-leb, lt-leb, leb-true, cond-both, cases-bool}
 use Rattle.chooser.specs.Log.{logged, Appends}
 use Rattle.chooser.specs.LowestOf.{lowest, lowest-from}

@@ -1,7 +1,8 @@
 -- The numbers of a chooser's refusals.
 use Prim.Native.Nat.{ℕ}
 use Rattle.chooser.specs.declared.refusal.Refusal.{Refusal}
-use Rattle.chooser.specs.declared.refusal.Refusal.the-variants.{NoSuchStage, NoSuchNode, ProposedBefore, NeedOutOfRange}
+use Rattle.chooser.specs.declared.refusal.Refusal.the-variants.{NoSuchStage, NoSuchNode, ProposedBefore}
+use Rattle.chooser.specs.declared.refusal.Refusal.the-variants.{NeedOutOfRange}
 
 abbrev pub number-of : Refusal → ℕ
 number-of NoSuchStage = 31

@@ -3,7 +3,8 @@ use Prim.Native.Nat.{_≤_}
 use mathlib.Core.Path.{_∙_, ap}
 use Rattle.chooser.specs.Meaning.{has-proposed, proposal-of}
 use Rattle.chooser.specs.Table.{stage-at}
-use Rattle.chooser.proofs.Tables.{served-between, stage-is-sound, stage-parts, room-in, absent-in, with-one, table-one, one-here, none-there, no-refusal}
+use Rattle.chooser.proofs.Tables.{served-between, stage-is-sound, stage-parts, room-in, absent-in, with-one}
+use Rattle.chooser.proofs.Tables.{table-one, one-here, none-there, no-refusal}
 use Rattle.chooser.proofs.log.Log.propose.Needs as need
 
 pub part-is-among-end : need.part-is-among-end
