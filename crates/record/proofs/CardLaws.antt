@@ -42,7 +42,7 @@ leads-over : (z x : Round) (xs : List Round) → ahead z x ≡ true → leads x 
 leads-over z x [] a f = refl
 leads-over z x (y ∷ xs) a f = ahead-trans z x y a f
 
-order-placed : (r : Round) (xs : List Round) → in-order xs ≡ true → in-order (placed r xs) ≡ true
+pub order-placed : (r : Round) (xs : List Round) → in-order xs ≡ true → in-order (placed r xs) ≡ true
 order-placed r [] e = refl
 order-placed r (x ∷ xs) e =
     let k = and-parts (leads x xs) (in-order xs) e in

@@ -8,6 +8,7 @@ pub mod KittyLaws
 pub mod PairLaws
 pub mod Placing
 pub mod PostLoop
+pub mod PostingLaws
 pub mod RoundsLaws
 pub mod Tables
 pub mod TellLoop

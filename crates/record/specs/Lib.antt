@@ -5,5 +5,6 @@ pub mod Command
 pub mod Kind
 pub mod Kitty
 pub mod Pair
+pub mod Posting
 pub mod Rounds
 pub mod Table

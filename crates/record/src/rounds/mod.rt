@@ -2,6 +2,7 @@
 mod adjust;
 pub mod card;
 mod change;
+pub mod laws;
 mod post;
 pub mod record;
 mod tell;
