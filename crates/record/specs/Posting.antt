@@ -19,4 +19,4 @@ times z (x ∷ xs) = cond (same-round z x) 1 0 + times z xs
 -- One round more: rounds in order stay in order, the new round is among them once more, and no other is lost or gained.
 abbrev pub Posting-adds-one : Type 0
 Posting-adds-one = (r : Round) (xs : List Round) → in-order xs ≡ true →
-  (in-order (placed r xs) ≡ true) × ((z : Round) → times z (placed r xs) ≡ times z (r ∷ xs))
+    (in-order (placed r xs) ≡ true) × ((z : Round) → times z (placed r xs) ≡ times z (r ∷ xs))
