@@ -1,0 +1,13 @@
+pub mod ByteLists
+pub mod Fronts
+pub mod Spellings
+pub mod Large
+pub mod Judged
+pub mod Puts
+pub mod Growing
+pub mod Back
+pub mod EntryBack
+pub mod Once
+pub mod Steps
+pub mod Onward
+pub mod EntryOnce
