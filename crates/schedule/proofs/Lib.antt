@@ -3,10 +3,6 @@ pub mod Fronts
 pub mod Spellings
 pub mod Large
 pub mod Judged
-pub mod Puts
-pub mod Growing
-pub mod Back
-pub mod EntryBack
 pub mod Once
 pub mod Steps
 pub mod Onward

@@ -1,11 +1,10 @@
 -- The bytes of a number.
 use mathlib.Core.Path.{_≡_, ap, _∙_}
 use mathlib.Core.List.{[], _∷_}
-use Prim.Native.Nat.{ℕ, suc, _+_, _/_, _%_, _<_, _≤_}
+use Prim.Native.Nat.{ℕ, _+_, _/_, _%_, _<_, _≤_}
 use native.Mathlib.Omega.{arith}
 use lib.Dec.{ltb}
-use lib.ListN.{length}
-use Rattle.std.proofs.shelf.Tests.{lt-ltb, le-ltb, cond-true, cond-false, cond-both}
+use Rattle.std.proofs.shelf.Tests.{lt-ltb, le-ltb, cond-true, cond-false}
 use Rattle.schedule.specs.Numbers.{spell}
 
 -- one group below 128
@@ -26,13 +25,3 @@ spell-3 v h =
     cond-false (ltb v 128) _ _ (le-ltb v 128 (omega arith))
     ∙ ap (λ l. (128 + v % 128) ∷ l)
     (cond-false (ltb (v / 128) 128) _ _ (le-ltb (v / 128) 128 (omega arith)))
-
--- no more than three groups
-pub length-spell : (v : ℕ) → length (spell v) ≤ 3
-length-spell v =
-    cond-both (ltb v 128) _ _ (λ xs. length xs ≤ 3) (λ _. omega arith)
-    (λ _. cond-both (ltb (v / 128) 128) _ _ (λ xs. suc (length xs) ≤ 3) (λ _. omega arith) (λ _. omega arith))
-
--- no fewer than one
-pub spell-some : (v : ℕ) → 0 < length (spell v)
-spell-some v = cond-both (ltb v 128) _ _ (λ xs. 0 < length xs) (λ _. omega arith) (λ _. omega arith)

@@ -1,5 +1,5 @@
 -- An entry to be written, and its bytes.
-use mathlib.Core.Bool.{Bool, cond}
+use mathlib.Core.Bool.{Bool}
 use mathlib.Core.List.{List, [], _∷_}
 use Prim.Native.Nat.{ℕ, _≤_}
 use lib.Dec.{leb}
@@ -7,13 +7,9 @@ use lib.IntN.{ℤ, pos, negsuc, _+ℤ_, natAbs}
 use lib.Signed.{_≤ℤ_}
 use lib.ListN.{length}
 use Rattle.std.specs.Joined.{joined}
-use Rattle.std.specs.declared.result.Result.{Result}
-use Rattle.std.specs.declared.result.Result.the-variants.{Ok, Err}
 use Rattle.record.specs.declared.command.Command.{Command}
 use Rattle.schedule.specs.declared.draft.Draft.{Draft}
 use Rattle.schedule.specs.declared.draft.Draft.the-variants.{Broadcast, Receive, Step, Crash, Lose}
-use Rattle.schedule.specs.declared.draft.WriteRefusal.{WriteRefusal}
-use Rattle.schedule.specs.declared.draft.WriteRefusal.the-variants.{NumberAboveLimit, BufferTooShort}
 use Rattle.schedule.specs.Entries.{Act, broadcast, receive, step, crash, lose}
 use Rattle.schedule.specs.Numbers.{spell}
 
@@ -48,18 +44,6 @@ within (Receive place) = leb place 65535
 within (Step node) = leb node 255
 within (Crash node) = leb node 255
 within (Lose place) = leb place 65535
-
--- the length that is written into so many bytes, or why nothing is
-abbrev pub outcome : Draft → ℕ → Result ℕ WriteRefusal
-outcome d room =
-    cond (within d)
-    (cond (leb (length (spelling d)) room) (Ok (length (spelling d))) (Err BufferTooShort))
-    (Err NumberAboveLimit)
-
--- the number of a refusal
-abbrev pub refusal-number : WriteRefusal → ℕ
-refusal-number NumberAboveLimit = 42
-refusal-number BufferTooShort = 46
 
 -- what a draft says
 abbrev pub act-drafted : Draft → Act

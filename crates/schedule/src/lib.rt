@@ -1,4 +1,4 @@
-// Schedules as bytes: a reader of entries and headers, and a writer of entries.
+// Schedules as bytes: their format and its laws, and a reader of entries and headers.
 pub mod draft;
 pub mod entry;
 pub mod fault;
@@ -10,4 +10,3 @@ mod read_header;
 mod read_number;
 pub mod reader;
 pub mod report;
-pub mod write;

@@ -5,7 +5,7 @@ ghost use Rattle.std.specs.Options.{isSome};
 ghost use Rattle.std.specs.Options.{Cases as BySome};
 ghost use Rattle.std.specs.Slices.{found};
 ghost use Rattle.std.specs.declared.option.Option.the-variants.{Some};
-ghost use Rattle.schedule.specs.Numbers.{front, overlong, spell, Longer};
+ghost use Rattle.schedule.specs.Numbers.{front, overlong, Longer};
 
 // Whether some byte ends a number.
 pub(crate) fn has_end(bytes: &[u8]) -> bool
@@ -17,19 +17,6 @@ pub(crate) fn has_end(bytes: &[u8]) -> bool
         }
     }
     false
-}
-
-// How many groups a number takes.
-pub(crate) fn group_count(value: u16) -> usize
-    ensures { λ r. ⌜ r ≡ length (spell value) ⌝ }
-{
-    if value < 128 {
-        1
-    } else if value < 16_384 {
-        2
-    } else {
-        3
-    }
 }
 
 // Whether the number of so many bytes is longer than need be: its last group is 0, and is not its only one.

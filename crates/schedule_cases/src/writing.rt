@@ -1,13 +1,13 @@
 use record::command::Command;
 use schedule::draft::Draft;
-use schedule::draft::WriteRefusal;
-use schedule::draft::WriteRefusalDebug;
-use schedule::draft::WriteRefusalPartialEq;
 use schedule::entry::Entry;
 use schedule::entry::EntryDebug;
 use schedule::entry::EntryPartialEq;
 use schedule::reader::Reader;
-use schedule::write::write;
+use schedule_write::refusal::WriteRefusal;
+use schedule_write::refusal::WriteRefusalDebug;
+use schedule_write::refusal::WriteRefusalPartialEq;
+use schedule_write::write::write;
 use std::test::*;
 
 // Drafts and their bytes; past them the buffer keeps its 0xEE.

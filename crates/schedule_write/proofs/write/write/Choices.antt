@@ -1,8 +1,8 @@
 use mathlib.Core.Path.{_≡_}
 use mathlib.Core.List.{_++_}
 use lib.ListN.{length, take, drop}
 use Rattle.schedule.specs.Drafts.{spelled}
-use Rattle.schedule.proofs.write.write.Given as given
+use Rattle.schedule_write.proofs.write.write.Given as given
 
 -- the numbers so far stand at the front, and past them all is as it was
 abbrev pub Inv-loop-value : given.InvT-loop-value

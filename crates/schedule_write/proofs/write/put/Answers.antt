@@ -2,9 +2,9 @@ use mathlib.Core.Path.{ap}
 use Prim.Native.Nat.{_+_, _%_, _/_}
 use native.Mathlib.Omega.{arith}
 use lib.ListN.{length}
-use Rattle.schedule.proofs.Puts.{over-1, over-2, over-3, puts}
+use Rattle.schedule_write.proofs.Puts.{over-1, over-2, over-3, puts}
 use Rattle.schedule.proofs.Spellings.{spell-1, spell-2, spell-3}
-use Rattle.schedule.proofs.write.put.Needs as need
+use Rattle.schedule_write.proofs.write.put.Needs as need
 
 -- one byte
 pub returns-then-value-lt128 : need.returns-then-value-lt128

@@ -5,10 +5,10 @@ use native.Mathlib.Omega.{arith}
 use lib.ListN.{length, take, drop}
 use Rattle.std.proofs.shelf.Lists.{take-all}
 use borrow.Author.Needs.{needs}
 use Rattle.schedule.specs.Drafts.{spelled, numbers-of, spelling}
-use Rattle.schedule.proofs.EntryBack.{reads-back}
-use Rattle.schedule.proofs.Growing.{length-more, room, one-more}
-use Rattle.schedule.proofs.write.write.Needs as need
+use Rattle.schedule_write.proofs.EntryBack.{reads-back}
+use Rattle.schedule_write.proofs.Growing.{length-more, room, one-more}
+use Rattle.schedule_write.proofs.write.write.Needs as need
 
 -- the next number has room
 pub put-at-requires : need.put-at-requires

@@ -5,12 +5,13 @@ ghost use Prim.Native.Nat.{_+_, _<_, _≤_};
 ghost use lib.ListN.{length, take, drop};
 ghost use Rattle.std.specs.Results.{Cases};
 ghost use Rattle.std.specs.Vec.{made, refused};
 ghost use Rattle.schedule.specs.Numbers.{spell};
-ghost use Rattle.schedule.specs.Drafts.{raised, spelled, numbers-of, within, outcome, spelling, InRange};
+ghost use Rattle.schedule.specs.Drafts.{raised, spelled, numbers-of, within, spelling, InRange};
 ghost use Rattle.schedule.specs.Laws.{Reads-back};
-use crate::draft::Draft;
-use crate::draft::WriteRefusal;
-use crate::numbers::group_count;
+ghost use Rattle.schedule_write.specs.Outcomes.{outcome};
+use crate::group::group_count;
+use crate::refusal::WriteRefusal;
+use schedule::draft::Draft;
 
 // The number from 0 on that an amount is written as.
 fn raised(amount: i16) -> u16

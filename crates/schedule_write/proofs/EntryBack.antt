@@ -13,17 +13,17 @@ use Rattle.std.proofs.shelf.Lists.{append-nil, drop-at, length-append, length-d
 use Rattle.std.proofs.shelf.Signed.{ints}
 use Rattle.std.proofs.shelf.Tests.{cond-true, le-leb, leb-true, eq-eqb}
 use Rattle.record.specs.declared.command.Command.{Command}
 use Rattle.schedule.specs.declared.draft.Draft.{Draft}
 use Rattle.schedule.specs.declared.draft.Draft.the-variants.{Broadcast, Receive, Step, Crash, Lose}
 use Rattle.schedule.specs.declared.fault.CommandFault.the-variants.{BytesLeft}
 use Rattle.schedule.specs.Numbers.{spell}
 use Rattle.schedule.specs.Commands.{command-at, command-of}
 use Rattle.schedule.specs.Entries.{Act, broadcast, receive, step, crash, lose, single-at, body-at, kind-at, entry-at}
 use Rattle.schedule.specs.Drafts.{raised, fields, spelled, spelling, within, act-drafted}
 use Rattle.schedule.specs.Drafts.{CommandInRange, InRange}
 use Rattle.schedule.specs.Laws.{Reads-back}
-use Rattle.schedule.proofs.Back.{next}
-use Rattle.schedule.proofs.Spellings.{length-spell, spell-some}
+use Rattle.schedule_write.proofs.Back.{next}
+use Rattle.schedule_write.proofs.Lengths.{length-spell, spell-some}
 
 -- an amount reads back
 raised-back : (a : ℤ) → negsuc 32767 ≤ℤ a → pos (raised a) -ℤ pos 32768 ≡ a

@@ -1,8 +1,8 @@
 use mathlib.Core.Path.{_≡_}
 use Prim.Native.Nat.{_*_, _≤_}
 use lib.ListN.{length, take}
 use Rattle.schedule.specs.Drafts.{spelled}
-use Rattle.schedule.proofs.write.size_of.Given as given
+use Rattle.schedule_write.proofs.write.size_of.Given as given
 
 -- the bytes of the numbers so far, of which each has three at most
 abbrev pub Inv-loop-value : given.InvT-loop-value

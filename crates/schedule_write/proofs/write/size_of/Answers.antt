@@ -2,10 +2,10 @@ use mathlib.Core.Path.{ap}
 use native.Mathlib.Omega.{arith}
 use lib.ListN.{length, getD}
 use Rattle.std.proofs.shelf.Lists.{take-all}
 use Rattle.schedule.specs.Drafts.{spelled}
-use Rattle.schedule.proofs.Spellings.{length-spell}
-use Rattle.schedule.proofs.Growing.{length-more}
-use Rattle.schedule.proofs.write.size_of.Needs as need
+use Rattle.schedule_write.proofs.Lengths.{length-spell}
+use Rattle.schedule_write.proofs.Growing.{length-more}
+use Rattle.schedule_write.proofs.write.size_of.Needs as need
 
 -- one number more
 pub loop-value-again : need.loop-value-again

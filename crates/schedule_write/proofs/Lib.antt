@@ -1,0 +1,5 @@
+pub mod Lengths
+pub mod Puts
+pub mod Growing
+pub mod Back
+pub mod EntryBack
