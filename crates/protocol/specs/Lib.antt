@@ -1,0 +1,9 @@
+pub mod Sets
+pub mod Lists
+pub mod Ring
+pub mod Setters
+pub mod Nodes
+pub mod Calls
+pub mod Runs
+pub mod Promises
+pub mod Witnesses
