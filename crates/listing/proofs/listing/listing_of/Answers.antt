@@ -22,7 +22,7 @@ loop-reader-preserved c =
     let text = string_bytes c.loop-reader.text in
     let left : eqb p (length bytes) ≡ false = search rules in
     let read : entry_at bytes p ≡ Ok (a, q) = search rules in
-    let pushed : string_bytes c.push-str.new.self ≡ text ++ act_line a = search rules in
+    let pushed : string_bytes c.push_str.new.self ≡ text ++ act_line a = search rules in
     let on : p < q = search rules in
     let same : c.entry.new.self.bytes.now ≡ bytes = search rules in
     let room : q ≤ length bytes = omega (arith, c.entry.new.self.within, ap length same) in
@@ -36,7 +36,7 @@ returns-in-Err c =
     let text = string_bytes c.loop-reader.text in
     let left : eqb p (length bytes) ≡ false = search rules in
     let read : entry_at bytes p ≡ Err c.in-Err.fault = search rules in
-    let pushed : string_bytes c.push-str-in-Err.new.self ≡ text ++ fault_line c.in-Err.fault = search rules in
+    let pushed : string_bytes c.push_str-in-Err.new.self ≡ text ++ fault_line c.in-Err.fault = search rules in
     walked_out bytes p text _ (listing_of bytes) left c.in-Err.fault read pushed c.loop-reader.invariant.1
 
 -- the end

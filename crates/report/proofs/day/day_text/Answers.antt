@@ -9,19 +9,19 @@ use Rattle.report.specs.Reports.{day_text}
 use Rattle.report.proofs.EveryNodeShown.{every_node_shown}
 use Rattle.report.proofs.day.day_text.Goals as goal
 
-pub day-lines-requires : goal.day-lines-requires
-day-lines-requires g c =
+pub day_lines-requires : goal.day_lines-requires
+day_lines-requires g c =
     let w : World = world c.run_day.new.ring c.run_day.new.tray c.run_day.new.book c.run_day.new.sheets in
     every_node_shown g.R.Record.kind c.args.size w (g.C.Chooser.meaning c.run_day.new.chooser)
     c.in-Ok.ensures.kept
 
-pub returns-in-ok-text : goal.returns-in-ok-text
-returns-in-ok-text g c =
+pub returns-in_ok-text : goal.returns-in_ok-text
+returns-in_ok-text g c =
     let left : World = world c.run_day.new.ring c.run_day.new.tray c.run_day.new.book c.run_day.new.sheets in
     let M : Meaning = g.C.Chooser.meaning c.args.chooser.now in
     let N : Meaning = g.C.Chooser.meaning c.run_day.new.chooser in
     let bytes : List ℕ = c.args.reader.bytes.now in
-    let told : string_bytes c.in-ok-text.text ≡ day_text c.run_day.result c.args.size left = search rules in
+    let told : string_bytes c.in_ok-text.text ≡ day_text c.run_day.result c.args.size left = search rules in
     record {
       answer = c.run_day.result;
       left = left;

@@ -14,5 +14,5 @@ pub loop-node-preserved : goal.loop-node-preserved
 loop-node-preserved c =
     let w : World = world c.args.ring.now c.args.tray.now c.args.book.now c.args.sheets.now in
     let i : ℕ = c.loop-node.node in
-    let h : string_bytes c.push-str.new.self ≡ string_bytes c.loop-node.text ++ node_text w i = search rules in
+    let h : string_bytes c.push_str.new.self ≡ string_bytes c.loop-node.text ++ node_text w i = search rules in
     h ∙ (ap (λ (l : List ℕ). l ++ node_text w i) c.loop-node.invariant ∙ sym (nodes_more w i))

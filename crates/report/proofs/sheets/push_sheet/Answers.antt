@@ -9,7 +9,7 @@ pub loop-message-preserved : goal.loop-message-preserved
 loop-message-preserved c =
     let before : List ℕ = string_bytes c.args.text.now in
     let now : List ℕ = string_bytes c.loop-message.text in
-    let after : List ℕ = string_bytes c.push-str.new.self in
+    let after : List ℕ = string_bytes c.push_str.new.self in
     let h : after ≡ now ++ message_text (get_or c.args.sheet.now c.loop-message.message-index 0) = search rules in
     sheet_more message_text before now after c.args.sheet.now c.loop-message.message-index (omega arith) h
     c.loop-message.invariant

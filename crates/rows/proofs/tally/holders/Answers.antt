@@ -3,19 +3,19 @@ use Rattle.rows.specs.Rows.{no_check}
 use Rattle.rows.specs.Masks.{has}
 use Rattle.std.proofs.lemmas.Bool.{cond-true, cond-false}
 use Rattle.rows.proofs.tally.holders.Goals as goal
-use Rattle.rows.proofs.tally.holders.Goals.{then-has-bit, else-has-bit}
+use Rattle.rows.proofs.tally.holders.Goals.{then-has_bit, else-has_bit}
 
 pub loop-i-preserved : goal.loop-i-preserved
 loop-i-preserved c =
-    elim c.if-has-bit.branch [
-      | then-has-bit w ↦
+    elim c.if-has_bit.branch [
+      | then-has_bit w ↦
           let t : has (get_or c.args.checks.now c.loop-i.i no_check).set c.args.m ≡ true =
-          sym c.has-bit.ensures ∙ w.if-has-bit.true in
+          sym c.has_bit.ensures ∙ w.if-has_bit.true in
           let e = cond-true {A = ℕ} _ 1 0 t in
           (rw add-one (omega (arith, e, w.count-is)), omega (arith, w.count-is))
-      | else-has-bit w ↦
+      | else-has_bit w ↦
           let t : has (get_or c.args.checks.now c.loop-i.i no_check).set c.args.m ≡ false =
-          sym c.has-bit.ensures ∙ w.if-has-bit.false in
+          sym c.has_bit.ensures ∙ w.if-has_bit.false in
           let e = cond-false {A = ℕ} _ 1 0 t in
           (rw add-one (omega (arith, e, w.count-is)), omega (arith, w.count-is))
     ]

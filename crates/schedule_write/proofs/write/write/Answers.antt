@@ -6,20 +6,20 @@ use Rattle.schedule_write.proofs.Growing.{length_more, room, one_more}
 use Rattle.schedule_write.proofs.write.write.Goals as goal
 
 -- the next number has room
-pub put-at-requires : goal.put-at-requires
-put-at-requires c =
-    let ns = take (c.in-ok-list.count - 0) c.in-ok-list.list in
+pub put_at-requires : goal.put_at-requires
+put_at-requires c =
+    let ns = take (c.in_ok-list.count - 0) c.in_ok-list.list in
     let l = c.loop-value in
     room ns l.value-index l.at (length l.buffer) (omega arith) l.invariant.0 (omega arith)
 
 -- one number more
 pub loop-value-preserved : goal.loop-value-preserved
 loop-value-preserved c =
-    let ns = take (c.in-ok-list.count - 0) c.in-ok-list.list in
+    let ns = take (c.in_ok-list.count - 0) c.in_ok-list.list in
     let was = c.args.buffer.now in
     let l = c.loop-value in
     let i = l.value-index in
-    let put = c.put-at in
+    let put = c.put_at in
     let more = length_more ns i (omega arith) in (
       omega arith,
       one_more ns was l.buffer put.new.buffer i l.at (omega arith) l.invariant.0 l.invariant.1
@@ -31,10 +31,10 @@ loop-value-preserved c =
 pub returns : goal.returns
 returns c =
     let d = c.args.draft in
-    let ns = take (c.in-ok-list.count - 0) c.in-ok-list.list in
+    let ns = take (c.in_ok-list.count - 0) c.in_ok-list.list in
     let was = c.args.buffer.now in
     let l = c.loop-value in
-    let told = c.in-ok-list.ensures in
+    let told = c.in_ok-list.ensures in
     let are : ns ≡ numbers_of d = search rules in
     let done : spelled (take l.value-index ns) ≡ spelling d =
     ap spelled (take_all l.value-index ns (omega arith) ∙ are) in

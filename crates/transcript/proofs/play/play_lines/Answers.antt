@@ -15,10 +15,10 @@ loop-line-preserved g c =
     let out = string_bytes c.loop-line.out in
     let inv = c.loop-line.invariant in
     let split = c.in-Some.ensures.lines in
-    let pushed : string_bytes c.push-str.new.self ≡ out ++ answer_text number (answer_to T (command_of line)) =
+    let pushed : string_bytes c.push_str.new.self ≡ out ++ answer_text number (answer_to T (command_of line)) =
     search rules in (
       text_more T lines _ number line out _ _ split pushed inv.0,
-      told_more T lines _ line _ _ _ split c.answer-to-answer.ensures.told inv.1,
+      told_more T lines _ line _ _ _ split c.answer_to-answer.ensures.told inv.1,
       omega (arith, c.in-Some.ensures.shorter),
     )
 
@@ -28,7 +28,7 @@ returns g c =
     let lines = lines_of c.loop-line.rest.now in
     let out = string_bytes c.loop-line.out in
     let inv = c.loop-line.invariant in
-    let none = c.in-default.ensures.lines in
+    let none = c.in_default.ensures.lines in
     record {
       text = text_over T lines _ c.loop-line.number out none inv.0;
       told = told_over T lines _ _ none inv.1;

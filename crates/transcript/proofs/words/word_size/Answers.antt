@@ -3,8 +3,8 @@ use Rattle.transcript.specs.Words.{in_word}
 use Rattle.transcript.proofs.Leads.{leading_more, leading_stops, leading_all}
 use Rattle.transcript.proofs.words.word_size.Goals as goal
 
-pub returns-then-is-blank : goal.returns-then-is-blank
-returns-then-is-blank c =
+pub returns-then-is_blank : goal.returns-then-is_blank
+returns-then-is_blank c =
     let e : in_word (get_or c.args.line.now c.loop-i.i 0) ≡ false = search rules in
     record {
       value = leading_stops in_word c.args.line.now c.loop-i.i _ c.loop-i.invariant (omega arith) e;

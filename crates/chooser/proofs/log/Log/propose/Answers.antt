@@ -5,8 +5,8 @@ use Rattle.chooser.proofs.Tables.{served_between, stage_is_sound, stage_parts, r
 use Rattle.chooser.proofs.Tables.{table_one, one_here, none_there, no_refusal}
 use Rattle.chooser.proofs.log.Log.propose.Goals as goal
 
-pub slice-bounds-is-among-end : goal.slice-bounds-is-among-end
-slice-bounds-is-among-end c =
+pub slice-bounds-is_among-end : goal.slice-bounds-is_among-end
+slice-bounds-is_among-end c =
     let g = c.args.self.now in
     let t = stage_at g.stages c.args.stage in
     let k = stage_parts t (stage_is_sound g.stages c.args.stage g.sound c.if-stage-lt1.false c.if-stage-gt-STAGES.false) in
@@ -19,7 +19,7 @@ bounds-found-count c =
     let t = stage_at g.stages c.args.stage in
     let n = c.args.node in
     room_in t n (stage_is_sound g.stages c.args.stage g.sound c.if-stage-lt1.false c.if-stage-gt-STAGES.false)
-    (absent_in n t c.if-is-among.ensures) c.if-node-gt-HIGHEST-NODE.false
+    (absent_in n t c.if-is_among.ensures) c.if-node-gt-HIGHEST_NODE.false
 
 pub offset-bounds-found-count : goal.offset-bounds-found-count
 offset-bounds-found-count c = let h = bounds-found-count c in search rules
@@ -31,9 +31,9 @@ pub invariant-of-self : goal.invariant-of-self
 invariant-of-self c =
     let g = c.args.self.now in
     let s = c.args.stage in
-    let absent = absent_in c.args.node (stage_at g.stages s) c.if-is-among.ensures in (
+    let absent = absent_in c.args.node (stage_at g.stages s) c.if-is_among.ensures in (
       table_one g.stages s (proposal_of c.args.node c.args.sets) g.sound c.if-stage-lt1.false
-          c.if-stage-gt-STAGES.false absent c.if-node-gt-HIGHEST-NODE.false,
+          c.if-stage-gt-STAGES.false absent c.if-node-gt-HIGHEST_NODE.false,
       tt,
     )
 
@@ -46,8 +46,8 @@ returns c =
     let p = proposal_of n c.args.sets in
     let a = c.if-stage-lt1.false in
     let b = c.if-stage-gt-STAGES.false in
-    let h = c.if-node-gt-HIGHEST-NODE.false in
-    let absent = absent_in n t c.if-is-among.ensures in (
+    let h = c.if-node-gt-HIGHEST_NODE.false in
+    let absent = absent_in n t c.if-is_among.ensures in (
       no_refusal _ s n a b h (simp (served_between s a b) absent),
       one_here g.stages s p g.sound a b absent h,
       λ j ne. none_there g.stages s (with_one t p) j a ne,

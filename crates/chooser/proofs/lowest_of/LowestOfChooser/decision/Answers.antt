@@ -6,7 +6,7 @@ use Rattle.chooser.proofs.lowest_of.LowestOfChooser.decision.Goals as goal
 pub bounds-proposals-place : goal.bounds-proposals-place
 bounds-proposals-place c =
     let x = c.args.self.now in
-    let ps = c.in-ok-proposals.proposals.now in
+    let ps = c.in_ok-proposals.proposals.now in
     let l : lowest (take x.need ps) < x.need =
     lowest_within x.need x.low c.args.stage ps c.if-proposals-need.false in
     search rules

@@ -6,10 +6,10 @@ use Rattle.record.proofs.AdjustLoop.{range_here, range_next, adjusted_next, adju
 use Rattle.record.proofs.rounds.adjust.adjust.Goals as goal
 
 pub loop-i-init : goal.loop-i-init
-loop-i-init c = (c.requires.1, refl, refl, c.requires.2)
+loop-i-init c = (c.requires.rounds_len, refl, refl, c.requires.card_value)
 
-pub adjust-round-round-requires : goal.adjust-round-round-requires
-adjust-round-round-requires c =
+pub adjust_round-round-requires : goal.adjust_round-round-requires
+adjust_round-round-requires c =
     let xs = c.loop-i.card.rounds in
     let n = c.args.card.now.count in
     let a = c.loop-i.invariant.0 in
@@ -25,12 +25,12 @@ loop-i-preserved c =
     let n = c.args.card.now.count in
     let inv = c.loop-i.invariant in
     let a = inv.0 in
-    let b = c.requires.0 in
+    let b = c.requires.count_bound in
     let fits : n ≤ length xs = omega arith in
     let lt = c.loop-i-test.true in
     let by = to_z w16 (of_z w16 c.args.by) in
-    let y = c.adjust-round-round.result in
-    let done = c.adjust-round-round.ensures in (
+    let y = c.adjust_round-round.result in
+    let done = c.adjust_round-round.ensures in (
       length-set xs c.loop-i.i y ∙ a,
       inv.1,
       adjusted_next c.loop-i.i n xs lt fits by y _ done.day done.amount inv.2,
@@ -43,7 +43,7 @@ returns c =
     let n = c.args.card.now.count in
     let inv = c.loop-i.invariant in
     let a = inv.0 in
-    let b = c.requires.0 in
+    let b = c.requires.count_bound in
     let fits : n ≤ length xs = omega arith in
     let e = adjusted_end n c.loop-i.i xs _ (to_z w16 (of_z w16 c.args.by)) c.loop-i-test.false fits inv.2 in
     record {

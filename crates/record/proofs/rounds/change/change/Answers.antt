@@ -9,10 +9,10 @@ use Rattle.record.proofs.rounds.change.change.Goals as goal
 
 pub adjust-requires : goal.adjust-requires
 adjust-requires c =
-    let k = sound_parts c.args.card.now c.requires.0 in
+    let k = sound_parts c.args.card.now c.requires.card_value in
     let f : SFits w16 c.args.command.amount = search rules in
     let v : eqb c.args.command.verb 1 ≡ false = ne_eqb c.args.command.verb 1 c.if-command-eq-POST.false in
-    (k.1, k.0, (card_parts (kept c.args.card.now) k.2).2, simp to_z-of_z (adjusts_by c.args.command c.requires.1 v))
+    (record { count_bound = k.1; rounds_len = k.0; card_value = (card_parts (kept c.args.card.now) k.2).2; by_value = simp to_z-of_z (adjusts_by c.args.command c.requires.command_value v) })
 
 pub returns-then-command-eq-POST : goal.returns-then-command-eq-POST
 returns-then-command-eq-POST c =
@@ -23,7 +23,7 @@ returns-then-command-eq-POST c =
     let e : kept u ≡ card_after c.args.command (kept t) = rw v (simp to_z-of_z at c.post.ensures.after) in
     record {
       after = e;
-      sound = changed_sound c.args.command t u c.requires.1 c.requires.0 e c.post.ensures.width c.post.ensures.bound;
+      sound = changed_sound c.args.command t u c.requires.command_value c.requires.card_value e c.post.ensures.width c.post.ensures.bound;
     }
 
 pub returns-else-command-eq-POST : goal.returns-else-command-eq-POST
@@ -32,12 +32,12 @@ returns-else-command-eq-POST c =
     let u = c.adjust.new.card in
     let f : SFits w16 c.args.command.amount = search rules in
     let v : eqb c.args.command.verb 1 ≡ false = ne_eqb c.args.command.verb 1 c.if-command-eq-POST.false in
-    let k = sound_parts t c.requires.0 in
+    let k = sound_parts t c.requires.card_value in
     let b = k.1 in
     let e : kept u ≡ card_after c.args.command (kept t) =
     rw v (c.adjust.ensures.after ∙ ap (λ (z : ℤ). adjusted z (kept t)) (to_z-of_z w16 c.args.command.amount f)) in
     record {
       after = e;
-      sound = changed_sound c.args.command t u c.requires.1 c.requires.0 e c.adjust.ensures.width
+      sound = changed_sound c.args.command t u c.requires.command_value c.requires.card_value e c.adjust.ensures.width
           (omega (arith, c.adjust.ensures.count));
     }

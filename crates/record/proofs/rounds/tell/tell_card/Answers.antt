@@ -11,6 +11,6 @@ returns c =
     let b = k.1 in
     let le : t.count ≤ length t.rounds = omega arith in
     let z : t.count - 0 ≡ t.count = omega arith in
-    card_told t (vec_items c.args.list.now) (vec_items c.push.new.self) (vec_items c.tell-pairs.new.list)
-    (vec_items c.tell-zeros.new.list) le
-    c.in-ok-push.ensures.items (simp z at c.in-ok-tell-pairs.ensures) c.in-ok-tell-zeros.ensures
+    card_told t (vec_items c.args.list.now) (vec_items c.push.new.self) (vec_items c.tell_pairs.new.list)
+    (vec_items c.tell_zeros.new.list) le
+    c.in_ok-push.ensures.items (simp z at c.in_ok-tell_pairs.ensures) c.in_ok-tell_zeros.ensures

@@ -23,9 +23,9 @@ loop-round-preserved c =
     let v1 = vec_items c.push.new.self in
     let v2 = vec_items c.push-in-loop-round.new.self in
     let a : v1 ≡ v ++ (r.day ∷ []) =
-    c.in-ok-push.ensures.items ∙ ap (λ (k : ℕ). v ++ (k ∷ [])) c.from.ensures in
+    c.in_ok-push.ensures.items ∙ ap (λ (k : ℕ). v ++ (k ∷ [])) c.from.ensures in
     let b : v2 ≡ v1 ++ (raised r.amount ∷ []) =
-    c.in-ok-push-2.ensures.items
+    c.in_ok-push-2.ensures.items
     ∙ ap (λ (k : ℕ). v1 ++ (k ∷ [])) (c.raise.ensures ∙ ap raised (to_z-of_z w16 r.amount f)) in (
       (range_at rs i lt c.loop-round.invariant.0).1,
       told_next pairs (r.day ∷ (raised r.amount ∷ [])) rs i no_round v v2 _ lt refl (two_told v v1 v2 _ _ a b)

@@ -8,7 +8,7 @@ use Rattle.ring.proofs.ring.Ring.start.Goals as goal
 pub returns : goal.returns
 returns g c =
     let u : World = world c.args.self.now c.args.tray.now c.args.book.now c.args.sheets.now in
-    let v : World = world c.of-size.result c.clear.new.table c.clear-2.new.table c.clear-3.new.table in
+    let v : World = world c.of_size.result c.clear.new.table c.clear-2.new.table c.clear-3.new.table in
     let M : Meaning = g.C.Chooser.meaning c.args.chooser.now in
     let s : Starts c.args.size u M (Ok tt) v = search rules in
     record {

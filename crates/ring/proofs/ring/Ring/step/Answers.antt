@@ -7,16 +7,16 @@ use Rattle.ring.specs.Step.{stepper_refusal}
 use Rattle.ring.proofs.StepWays.{step_refused, proposing_steps, settling_steps}
 use Rattle.ring.proofs.ring.Ring.step.Goals as goal
 
-pub returns-in-err-size : goal.returns-in-err-size
-returns-in-err-size g c =
+pub returns-in_err-size : goal.returns-in_err-size
+returns-in_err-size g c =
     let w : World = world c.args.self.now c.args.tray.now c.args.book.now c.args.sheets.now in
     let M : Meaning = g.C.Chooser.meaning c.args.chooser.now in
-    let e : Refusal = c.in-err-size.field-0.0 in
+    let e : Refusal = c.in_err-size.field-0.0 in
     let cause : stepper_refusal w c.args.node ≡ Some e = search rules in
-    let answered : c.from-residual-in-err-size.result ≡ Err e = search rules in
+    let answered : c.from_residual-in_err-size.result ≡ Err e = search rules in
     record {
       sound = g.met.C.Chooser.sound c.args.chooser.now;
-      step = step_refused g.R.Record.kind w M c.args.node c.from-residual-in-err-size.result w M e cause answered
+      step = step_refused g.R.Record.kind w M c.args.node c.from_residual-in_err-size.result w M e cause answered
           refl refl;
     }
 

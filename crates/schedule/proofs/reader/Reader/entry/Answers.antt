@@ -10,9 +10,9 @@ pub returns : goal.returns
 returns c =
     let bytes = c.args.self.now.bytes.now in
     let p = c.args.self.now.place in
-    let act = act_of c.in-ok-entry.entry in
-    let q = c.entry-ahead.new.self.place in
-    let read = sym c.in-ok-entry.ensures.value in
+    let act = act_of c.in_ok-entry.entry in
+    let q = c.entry_ahead.new.self.place in
+    let read = sym c.in_ok-entry.ensures.value in
     record {
       value = search rules;
       bytes = search rules;

@@ -8,7 +8,7 @@ pub change-requires : goal.change-requires
 change-requires c =
     let s = c.args.self.now in
     let p : rounds_lawful c.args.command ≡ true = search rules in
-    (card_at s.cards c.args.command.subject s.sound (subject_below c.args.command p), p)
+    (record { card_value = card_at s.cards c.args.command.subject s.sound (subject_below c.args.command p); command_value = p })
 
 pub invariant-of-self : goal.invariant-of-self
 invariant-of-self c =

@@ -10,8 +10,8 @@ use Rattle.record.proofs.rounds.record.RoundsRecord.tell.Goals as goal
 abbrev telling : List Card → List ℕ
 telling ts = encode_cards (all_kept ts)
 
-pub tell-card-requires : goal.tell-card-requires
-tell-card-requires c =
+pub tell_card-requires : goal.tell_card-requires
+tell_card-requires c =
     let s = c.args.self.now in
     card_at s.cards c.loop-card.card-index s.sound c.loop-card-test.true
 
@@ -22,7 +22,7 @@ loop-card-preserved c =
     let n = (table_parts ts c.args.self.now.sound).0 in
     let lt : i < length ts = omega arith in
     told_next telling (encode_card (kept (get_or ts i no_card))) ts i no_card (vec_items c.loop-card.list)
-    (vec_items c.tell-card.new.list) _ lt refl c.in-ok-tell-card.ensures c.loop-card.invariant
+    (vec_items c.tell_card.new.list) _ lt refl c.in_ok-tell_card.ensures c.loop-card.invariant
 
 pub returns : goal.returns
 returns c =
