@@ -1,8 +1,8 @@
 -- Whatever is proposed later, the need and the decisions stay.
-use Rattle.std.proofs.Common.{◌≡◌, ℕ, ◌≤◌, get_or, Some, Ok, Err, Option, Result, sym, refl, ap, ◌∙◌, subst, ⊎_elim}
+use Rattle.std.proofs.Common.{◌≡◌, ℕ, get_or, Some, Ok, Err, Result, refl, ap, ◌∙◌, ⊎_elim}
 use Rattle.std.proofs.lemmas.Bool.{cases_eq}
-use Rattle.chooser.specs.Laws.{Later, at_once, and_then, DecisionsStay, EnoughDecides, NeedStays}
-use Rattle.chooser.specs.Meaning.{Meaning, Sound, Proposes, sets_of, no_proposal}
+use Rattle.chooser.specs.Laws.{at_once, and_then, DecisionsStay, EnoughDecides, NeedStays}
+use Rattle.chooser.specs.Meaning.{Meaning, Proposes, sets_of, no_proposal}
 use Rattle.chooser.specs.declared.refusal.Refusal.{Refusal}
 
 -- one call leaves the need

@@ -1,5 +1,4 @@
 -- First-come: the first proposal is decided.
-use Rattle.std.specs.Prelude.{ℕ}
 use Rattle.chooser.specs.Log.{logged}
 use Rattle.chooser.specs.Meaning.{Meaning}
 use Rattle.chooser.specs.Ruled.{ruled}

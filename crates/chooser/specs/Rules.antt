@@ -1,11 +1,11 @@
 -- A chooser that decides by a rule within the first need proposals keeps the meaning of choosers.
-use Rattle.std.specs.Prelude.{◌≡◌, ℕ, ◌+◌, ◌<◌, ◌≤◌, Bool, true, false, cond, leb, List, [], ◌∷◌, ◌++◌, length, take, drop, Some, None, Ok, Err, Result, nat_le, nat_lt, slice_index_or, refl}
-use Rattle.std.proofs.Common.{arith, ap, ◌∙◌, sym, ⊎_elim}
+use Rattle.std.specs.Prelude.{◌≡◌, ℕ, ◌+◌, ◌<◌, ◌≤◌, true, false, cond, leb, List, [], ◌∷◌, ◌++◌, length, take, drop, Some, None, Ok, Err, Result, nat_le, nat_lt, slice_index_or, refl}
+use Rattle.std.proofs.Common.{arith, ap, ◌∙◌, ⊎_elim}
 use Rattle.std.proofs.lemmas.List.{at_drop_more, at_drop_all, length-take-le, take-append-le, get_or_append_left, length-append}
 use Rattle.std.proofs.lemmas.Bool.{le-leb, lt-leb, leb-true, cond_both, cases_Bool}
 use Rattle.chooser.specs.Log.{logged, Appends}
 use Rattle.chooser.specs.LowestOf.{lowest, lowest_from}
-use Rattle.chooser.specs.Meaning.{Sound, Appended, Proposes, served, sets_of, no_proposal, proposal_of}
+use Rattle.chooser.specs.Meaning.{Sound, Proposes, sets_of, no_proposal, proposal_of}
 use Rattle.chooser.specs.Ruled.{decided, ruled}
 use Rattle.chooser.specs.declared.log.Log.{Log}
 use Rattle.chooser.specs.declared.proposal.Proposal.{Proposal}

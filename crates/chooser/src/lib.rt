@@ -1,4 +1,6 @@
 // Choosers: what settles a stage of the ring when nodes propose different things.
+#![tactic(auto)]
+
 pub mod chooser;
 pub mod first_come;
 pub mod laws;

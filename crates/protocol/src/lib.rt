@@ -1,6 +1,7 @@
 //! A protocol for Generic Broadcast: nodes of a ring broadcast messages and deliver them, and only messages that conflict have
 //! to be delivered in one order. The crate runs nothing: its functions stand for theorems, which are their contracts.
 //! `specs` says what a ring, its calls and its runs are, and what every run promises; `proofs` proves it.
+#![tactic(auto)]
 
 ghost use Rattle.protocol.specs.Promises.{RunsAreSound};
 ghost use Rattle.protocol.specs.Witnesses.{ARunDeliversEarly, ARunSettles, ARunHasTwoOrders};

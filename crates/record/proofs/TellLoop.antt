@@ -1,10 +1,10 @@
 -- The loops that tell the cards: what is told so far, and what the rest will tell.
-use Rattle.std.proofs.Common.{◌≡◌, ℕ, ◌+◌, ◌-◌, ◌*◌, ◌<◌, ◌≤◌, true, List, [], ◌∷◌, ◌++◌, length, get_or, drop, replicate, sym, refl, ap, ◌∙◌, arith}
+use Rattle.std.proofs.Common.{◌≡◌, ℕ, ◌+◌, ◌-◌, ◌*◌, ◌<◌, ◌≤◌, true, List, [], ◌∷◌, ◌++◌, length, get_or, drop, replicate, sym, ap, ◌∙◌}
 use Rattle.std.proofs.lemmas.Bool.{and_parts}
 use Rattle.std.proofs.lemmas.List.{at_drop_more, at_drop_all, append_assoc, append-nil, length-take-le}
 use Rattle.record.specs.Card.{in_range, all_in_range}
-use Rattle.record.specs.Rounds.{raised, pairs, encode_card, encode_cards}
-use Rattle.record.specs.Table.{kept, all_kept, no_card}
+use Rattle.record.specs.Rounds.{pairs, encode_card}
+use Rattle.record.specs.Table.{kept}
 use Rattle.record.specs.declared.rounds.card.Round.{Round}
 use Rattle.record.specs.declared.rounds.card.Card.{Card}
 use Rattle.record.proofs.PostLoop.{no_round}

@@ -1,5 +1,5 @@
 -- Closing book: a record that takes no commands while it is closed.
-use Rattle.std.specs.Prelude.{ℕ, suc, Bool, true, false, cond, ◌&&◌, ◌||◌, List, [], ◌∷◌, ℤ, pos, negsuc, ◌==◌, nat_le}
+use Rattle.std.specs.Prelude.{ℕ, suc, Bool, false, cond, ◌&&◌, ◌||◌, List, [], ◌∷◌, ℤ, pos, negsuc, ◌==◌, nat_le}
 use Rattle.record.specs.Kind.{Taking, Kind}
 use Rattle.record.specs.declared.command.Command.{Command}
 

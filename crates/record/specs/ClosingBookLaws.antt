@@ -1,5 +1,5 @@
 -- The laws of a closing book, from those of the record below.
-use Rattle.std.specs.Prelude.{◌≡◌, ℕ, suc, ◌≤◌, Bool, true, false, cond, ◌&&◌, ◌||◌, List, [], ◌∷◌, length, ◌==◌, nat_eq, nat_le, refl}
+use Rattle.std.specs.Prelude.{◌≡◌, ℕ, suc, Bool, true, false, cond, ◌||◌, List, [], ◌∷◌, length, ◌==◌, nat_eq, nat_le, refl}
 use Rattle.std.proofs.Common.{arith, ap, ⊎_elim}
 use Rattle.std.proofs.lemmas.Bool.{and_parts, and_from, or_parts, cases_Bool, false≢true}
 use Rattle.record.specs.Kind.{Kind, Laws}

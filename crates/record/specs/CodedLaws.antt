@@ -1,8 +1,8 @@
 -- A machine that runs gives a kind that keeps the laws of records.
-use Rattle.std.specs.Prelude.{◌≡◌, ℕ, Bool, true, false, ◌&&◌, List, [], ◌∷◌, length, ◌==◌, refl}
+use Rattle.std.specs.Prelude.{◌≡◌, ℕ, true, List, [], ◌∷◌, length, ◌==◌, refl}
 use Rattle.std.proofs.Common.{ap, ◌∙◌, sym}
 use Rattle.std.proofs.lemmas.Bool.{and_parts, and_from, eqb-true, eq-eqb, false≢true}
-use Rattle.record.specs.Kind.{Kind, Laws}
+use Rattle.record.specs.Kind.{Laws}
 use Rattle.record.specs.Coded.{same, Machine, coded_tells, coded, Runs}
 use Rattle.record.specs.declared.command.Command.{Command}
 

@@ -1,5 +1,5 @@
 -- Pair: two records side by side, told one after the other.
-use Rattle.std.specs.Prelude.{ℕ, ◌+◌, ◌/◌, ◌%◌, Bool, true, false, cond, not, ◌&&◌, ◌||◌, List, ◌++◌, take, drop, ◌==◌}
+use Rattle.std.specs.Prelude.{ℕ, ◌+◌, ◌/◌, ◌%◌, Bool, false, cond, not, ◌&&◌, ◌||◌, List, ◌++◌, take, drop, ◌==◌}
 use Rattle.record.specs.Kind.{Taking, Kind}
 use Rattle.record.specs.declared.command.Command.{Command}
 

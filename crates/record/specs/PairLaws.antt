@@ -1,9 +1,9 @@
 -- The laws of two records side by side, from the laws of each.
-use Rattle.std.specs.Prelude.{◌≡◌, ℕ, ◌+◌, ◌≤◌, Bool, true, false, cond, not, ◌&&◌, ◌||◌, List, [], ◌∷◌, ◌++◌, length, take, drop, Ok, Err, Result, refl}
+use Rattle.std.specs.Prelude.{◌≡◌, ℕ, ◌+◌, Bool, true, false, cond, not, ◌&&◌, List, ◌++◌, length, Ok, Err, Result, refl}
 use Rattle.std.proofs.Common.{arith, ap, ◌∙◌, sym, subst, ⊎_elim, take-append-drop, length-append}
 use Rattle.std.proofs.lemmas.List.{take_at, drop_at}
 use Rattle.std.proofs.lemmas.Bool.{and_parts, and_from, or_parts, cases_Bool}
-use Rattle.record.specs.Kind.{Kind, Steady, Laws, Taken}
+use Rattle.record.specs.Kind.{Kind, Laws, Taken}
 use Rattle.record.specs.Pair.{is_left, at_side, left_part, right_part, pair_lawful, sides_conflict, pair_after}
 use Rattle.record.specs.Pair.{pair_tells, pair_taking, pair_kind}
 use Rattle.record.specs.declared.command.Command.{Command}

@@ -1,5 +1,5 @@
 -- How the code holds the rounds: eight cards, each an array of which the first part counts.
-use Rattle.std.specs.Prelude.{ℕ, Bool, true, ◌&&◌, List, [], ◌∷◌, length, take, ◌==◌, nat_le}
+use Rattle.std.specs.Prelude.{Bool, true, ◌&&◌, List, [], ◌∷◌, length, take, ◌==◌, nat_le}
 use Rattle.record.specs.Card.{is_card}
 use Rattle.record.specs.declared.rounds.card.Round.{Round}
 use Rattle.record.specs.declared.rounds.card.Card.{Card}

@@ -1,4 +1,6 @@
 // Records: what the servers hold, and what a command makes of it.
+#![tactic(auto)]
+
 pub mod closing_book;
 pub mod command;
 pub mod kitty;

@@ -4,8 +4,8 @@ use lib.Count.{ones}
 use Rattle.std.proofs.lemmas.Nat.{ones-le}
 use Rattle.ring.proofs.showing.used_part.Goals as goal
 
-pub slice-bounds-result-end : goal.slice-bounds-result-end
-slice-bounds-result-end c =
+pub slice_bounds-result-end : goal.slice_bounds-result-end
+slice_bounds-result-end c =
     let g : ℕ = c.args.row.now.delivered in
     let e : ℕ = c.args.row.now.early in
     let hg : g < 2 ^ 64 = search rules in

@@ -11,5 +11,5 @@ bounds-proposals-place c =
     lowest_within x.need x.low c.args.stage ps c.if-proposals-need.false in
     search rules
 
-pub offset-bounds-proposals-place : goal.offset-bounds-proposals-place
-offset-bounds-proposals-place c = let h = bounds-proposals-place c in search rules
+pub offset_bounds-proposals-place : goal.offset_bounds-proposals-place
+offset_bounds-proposals-place c = let h = bounds-proposals-place c in search rules

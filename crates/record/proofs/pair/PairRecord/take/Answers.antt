@@ -1,4 +1,4 @@
-use Rattle.std.proofs.Common.{◌≡◌, sym, ◌∙◌}
+use Rattle.std.proofs.Common.{sym, ◌∙◌}
 use Rattle.record.specs.PairLaws.{taken_left, taken_right}
 use Rattle.record.proofs.pair.PairRecord.take.Goals as goal
 

@@ -1,4 +1,4 @@
-use Rattle.std.proofs.Common.{◌≡◌, ℕ, ◌≤◌, length, take, ℤ, refl, ap, ◌∙◌, arith, length-set, w16, to_z, of_z}
+use Rattle.std.proofs.Common.{ℕ, ◌≤◌, length, take, ℤ, refl, ap, ◌∙◌, arith, length-set, w16, to_z, of_z}
 use Rattle.std.proofs.lemmas.Int.{to_z-of_z}
 use Rattle.record.specs.Card.{adjusted}
 use Rattle.record.specs.Table.{kept}
@@ -13,11 +13,11 @@ adjust_round-round-requires c =
     let xs = c.loop-i.card.rounds in
     let n = c.args.card.now.count in
     let a = c.loop-i.invariant.0 in
-    let b = c.requires.0 in
-    let fits : n ≤ length xs = omega arith in (
-      (range_here c.loop-i.i n xs c.loop-i-test.true fits c.loop-i.invariant.3).0,
-      rw (to_z-of_z w16 c.args.by c.ranges.by) c.requires.3,
-    )
+    let b = c.requires.count_bound in
+    let fits : n ≤ length xs = omega arith in record {
+      round_value = (range_here c.loop-i.i n xs c.loop-i-test.true fits c.loop-i.invariant.3).0;
+      by_value = rw (to_z-of_z w16 c.args.by c.ranges.by) c.requires.by_value;
+    }
 
 pub loop-i-preserved : goal.loop-i-preserved
 loop-i-preserved c =

@@ -10,10 +10,10 @@ change-requires c =
     let p : rounds_lawful c.args.command ≡ true = search rules in
     (record { card_value = card_at s.cards c.args.command.subject s.sound (subject_below c.args.command p); command_value = p })
 
-pub invariant-of-self : goal.invariant-of-self
-invariant-of-self c =
+pub invariant_of-self : goal.invariant_of-self
+invariant_of-self c =
     let s = c.args.self.now in
-    (table_set s.cards c.args.command.subject _ s.sound c.change.ensures.sound, tt)
+    record { sound = table_set s.cards c.args.command.subject _ s.sound c.change.ensures.sound }
 
 pub returns : goal.returns
 returns c =
