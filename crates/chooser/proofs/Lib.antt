@@ -1,4 +1,5 @@
 pub mod Apart
 pub mod Lowest
+pub mod Rules
 pub mod Standing
 pub mod Tables

@@ -1,4 +1,5 @@
 pub mod AdjustLoop
+pub mod CardChanged
 pub mod PostLoop
 pub mod PostingLaws
 pub mod TellLoop

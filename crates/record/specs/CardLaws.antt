@@ -11,6 +11,7 @@ use Rattle.record.specs.Rounds.{posts, adjusts, rounds_lawful, round_of, card_af
 use Rattle.record.specs.declared.command.Command.{Command}
 use Rattle.record.specs.declared.rounds.card.Round.{Round}
 use Rattle.record.specs.Placing.{ahead_total, ahead_trans}
+use Rattle.record.specs.PlacingFacts.{PlacingFacts}
 
 pub card_parts : (xs : List Round) → is_card xs ≡ true → (length xs ≤ 20) × (in_order xs ≡ true) × (all_in_range xs ≡ true)
 card_parts xs e =
@@ -61,7 +62,7 @@ order_take (suc n) (x ∷ xs) e =
 
 -- posting keeps the range
 
-range_placed : (r : Round) (xs : List Round) → in_range r ≡ true → all_in_range xs ≡ true → all_in_range (placed r xs) ≡ true
+pub range_placed : (r : Round) (xs : List Round) → in_range r ≡ true → all_in_range xs ≡ true → all_in_range (placed r xs) ≡ true
 range_placed r [] a e = and_from (in_range r) true a refl
 range_placed r (x ∷ xs) a e =
     let k = and_parts (in_range x) (all_in_range xs) e in
@@ -79,11 +80,11 @@ range_take (suc n) (x ∷ xs) e =
     let k = and_parts (in_range x) (all_in_range xs) e in
     and_from (in_range x) (all_in_range (take n xs)) k.0 (range_take n xs k.1)
 
-posted_card : (r : Round) (xs : List Round) → in_range r ≡ true → is_card xs ≡ true → is_card (posted r xs) ≡ true
-posted_card r xs a e =
+posted_card : PlacingFacts → (r : Round) (xs : List Round) → in_range r ≡ true → is_card xs ≡ true → is_card (posted r xs) ≡ true
+posted_card f r xs a e =
     let k = card_parts xs e in
-    card_from (posted r xs) (simp length-take (omega arith)) (order_take 20 (placed r xs) (order_placed r xs k.1))
-    (range_take 20 (placed r xs) (range_placed r xs a k.2))
+    card_from (posted r xs) (simp length-take (omega arith)) (order_take 20 (placed r xs) (f.ordered r xs k.1))
+    (range_take 20 (placed r xs) (f.ranged r xs a k.2))
 
 -- adjusting keeps the order, since all rounds move alike and meet the same ends
 
@@ -136,9 +137,10 @@ adjusted_card d xs e =
 posts_range : (c : Command) → rounds_lawful c ≡ true → (c.verb == 1) ≡ true → in_range (round_of c) ≡ true
 posts_range c p v = let q = (and_parts (nat_lt c.subject 8) (posts c || adjusts c) p).1 in grind (arith, nat_tests, ints)
 
-pub after_card : (c : Command) (xs : List Round) → rounds_lawful c ≡ true → is_card xs ≡ true → is_card (card_after c xs) ≡ true
-after_card c xs p e =
+pub after_card : PlacingFacts → (c : Command) (xs : List Round) → rounds_lawful c ≡ true → is_card xs ≡ true →
+    is_card (card_after c xs) ≡ true
+after_card f c xs p e =
     ⊎_elim
-    (λ (v : nat_eq c.verb 1 ≡ true). simp v (posted_card (round_of c) xs (posts_range c p v) e))
+    (λ (v : nat_eq c.verb 1 ≡ true). simp v (posted_card f (round_of c) xs (posts_range c p v) e))
     (λ (v : nat_eq c.verb 1 ≡ false). simp v (adjusted_card c.amount xs e))
     (cases_Bool (c.verb == 1))

@@ -18,17 +18,17 @@ same_equal (x ∷ l) (y ∷ m) e =
     let h = and_parts (x == y) (same l m) e in
     ap (λ (z : ℕ). z ∷ l) (eqb-true x y h.0) ∙ ap (λ (z : List ℕ). y ∷ z) (same_equal l m h.1)
 
+-- the code of a valid state that is read back can be told
+pub code_tells : {S : Type 0} (M : Machine S) (s : S) → M.decode (M.encode s) ≡ s → M.valid s ≡ true →
+    coded_tells M (M.encode s) ≡ true
+code_tells M s b v =
+    and_from (M.valid (M.decode (M.encode s))) (same (M.encode (M.decode (M.encode s))) (M.encode s))
+    (ap M.valid b ∙ v) (ap (λ z. same (M.encode z) (M.encode s)) b ∙ same_self (M.encode s))
+
 module _ {S : Type 0} (M : Machine S) (r : Runs M) where
   parts : (l : List ℕ) → coded_tells M l ≡ true →
       (M.valid (M.decode l) ≡ true) × (same (M.encode (M.decode l)) l ≡ true)
   parts l e = and_parts (M.valid (M.decode l)) (same (M.encode (M.decode l)) l) e
-
-  -- the code of a valid state can be told
-  pub code_tells : (s : S) → M.valid s ≡ true → coded_tells M (M.encode s) ≡ true
-  code_tells s v =
-      let b = r.back s v in
-      and_from (M.valid (M.decode (M.encode s))) (same (M.encode (M.decode (M.encode s))) (M.encode s))
-      (ap M.valid b ∙ v) (ap (λ (z : S). same (M.encode z) (M.encode s)) b ∙ same_self (M.encode s))
 
   sized : (l : List ℕ) → coded_tells M l ≡ true → length l ≡ M.width
   sized l e =
@@ -44,9 +44,12 @@ module _ {S : Type 0} (M : Machine S) (r : Runs M) where
   coded_laws = record {
     steady = record {
       something = r.something;
-      starts = code_tells M.start r.starts;
+      starts = code_tells M M.start (r.back M.start r.starts) r.starts;
       sized = sized;
-      keeps = λ l c e p. code_tells (M.step (M.decode l) c) (r.holds (M.decode l) c (parts l e).0 p);
+      keeps = λ l c e p.
+          let v = r.holds (M.decode l) c (parts l e).0 p in
+          let s = M.step (M.decode l) c in
+          code_tells M s (r.back s v) v;
     };
     symmetric = r.symmetric;
     unlawful = r.unlawful;

@@ -15,6 +15,7 @@ pub mod PairLaws
 pub mod RoundsLaws
 pub mod CardLaws
 pub mod Placing
+pub mod PlacingFacts
 pub mod CodedLaws
 pub mod Codes
 pub mod Tables

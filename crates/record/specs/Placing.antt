@@ -4,7 +4,7 @@ use Rattle.std.proofs.Common.{arith, ap, ◌∙◌, sym, subst, ⊎_elim}
 use Rattle.std.proofs.lemmas.Bool.Decides.{nat_tests}
 use Rattle.std.proofs.lemmas.Int.{ints}
 use Rattle.std.proofs.lemmas.Bool.{cases_Bool, true≢false}
-use Rattle.record.specs.Card.{ahead, placed, posted}
+use Rattle.record.specs.Card.{ahead, placed}
 use Rattle.record.specs.declared.rounds.card.Round.{Round}
 
 pub ahead_total : (x y : Round) → ahead x y ≡ false → ahead y x ≡ true
@@ -27,7 +27,7 @@ same_two a b xs e f =
     subst (λ (z : Round). placed a (placed z xs) ≡ placed z (placed a xs)) (ahead_both a b e f) refl
 
 -- two rounds, of which the first is ahead
-placed_ahead : (a b : Round) (xs : List Round) → ahead a b ≡ true → placed a (placed b xs) ≡ placed b (placed a xs)
+pub placed_ahead : (a b : Round) (xs : List Round) → ahead a b ≡ true → placed a (placed b xs) ≡ placed b (placed a xs)
 placed_ahead a b [] e =
     ⊎_elim (λ (f : ahead b a ≡ true). same_two a b [] e f) (λ (f : ahead b a ≡ false). simp (e, f)) (cases_Bool (ahead b a))
 placed_ahead a b (x ∷ xs) e =
@@ -49,15 +49,8 @@ placed_ahead a b (x ∷ xs) e =
     (cases_Bool (ahead a x)))
     (cases_Bool (ahead b x))
 
-placed_commute : (a b : Round) (xs : List Round) → placed a (placed b xs) ≡ placed b (placed a xs)
-placed_commute a b xs =
-    ⊎_elim
-    (λ (f : ahead a b ≡ true). placed_ahead a b xs f)
-    (λ (f : ahead a b ≡ false). sym (placed_ahead b a xs (ahead_total a b f)))
-    (cases_Bool (ahead a b))
-
 -- what lies past the first n rounds does not reach them
-placed_take : (n : ℕ) (r : Round) (xs : List Round) → take n (placed r (take n xs)) ≡ take n (placed r xs)
+pub placed_take : (n : ℕ) (r : Round) (xs : List Round) → take n (placed r (take n xs)) ≡ take n (placed r xs)
 placed_take zero r xs = refl
 placed_take (suc n) r [] = refl
 placed_take (suc n) r (x ∷ xs) =
@@ -65,7 +58,3 @@ placed_take (suc n) r (x ∷ xs) =
     (λ (f : ahead r x ≡ true). simp f (ap (λ (z : List Round). r ∷ z) (placed_take n x xs)))
     (λ (f : ahead r x ≡ false). simp f (ap (λ (z : List Round). x ∷ z) (placed_take n r xs)))
     (cases_Bool (ahead r x))
-
-pub posted_commute : (a b : Round) (xs : List Round) → posted a (posted b xs) ≡ posted b (posted a xs)
-posted_commute a b xs =
-    placed_take 20 a (placed b xs) ∙ ap (take 20) (placed_commute a b xs) ∙ sym (placed_take 20 b (placed a xs))

@@ -1,11 +1,11 @@
 -- The laws of the rounds of eight players.
-use Rattle.std.specs.Prelude.{◌≡◌, ℕ, zero, suc, ◌<◌, Bool, true, false, not, ◌&&◌, ◌||◌, ◌≢◌, List, [], ◌∷◌, length, get_or, set, pos, negsuc, ◌==◌, nat_eq, nat_lt, slice_index_or, slice_set, refl}
+use Rattle.std.specs.Prelude.{◌≡◌, ℕ, zero, suc, ◌<◌, Bool, true, false, not, ◌&&◌, ◌||◌, ◌≢◌, List, [], ◌∷◌, length, get_or, set, take, pos, negsuc, ◌==◌, nat_eq, nat_lt, slice_index_or, slice_set, refl}
 use Rattle.std.proofs.Common.{arith, ap, ◌∙◌, sym, subst, ⊎_elim}
 use Rattle.std.proofs.Math.Bool.{or_comm}
 use Rattle.std.proofs.lemmas.Bool.Decides.{nat_tests}
 use Rattle.std.proofs.lemmas.List.{length-set, get_or-set_same, get_or-set_other, set-set, set_comm}
 use Rattle.std.proofs.lemmas.Bool.{and_parts, and_from, or_parts, or_cases, cases_Bool, eqb-true, eqb-false, eq-eqb, ltb-true, true≢false}
-use Rattle.record.specs.Card.{between, is_card, are_cards}
+use Rattle.record.specs.Card.{ahead, placed, posted, between, is_card, are_cards}
 use Rattle.record.specs.Coded.{Runs}
 use Rattle.record.specs.Kind.{Laws}
 use Rattle.record.specs.Rounds.{posts, adjusts, rounds_lawful, players_conflict, round_of, card_after, cards_after}
@@ -16,7 +16,8 @@ use Rattle.record.specs.CardLaws.{after_card}
 use Rattle.record.specs.CodedLaws.{coded_laws}
 use Rattle.record.specs.Codes.{cards_back, cards_width}
 use Rattle.record.specs.Conflicts.{either_way}
-use Rattle.record.specs.Placing.{posted_commute}
+use Rattle.record.specs.Placing.{ahead_total}
+use Rattle.record.specs.PlacingFacts.{PlacingFacts}
 
 -- what is valid, in its two parts
 
@@ -42,14 +43,14 @@ cards_set (u ∷ ts) (suc i) t e f =
 abbrev changed : ℕ → (List Round → List Round) → List (List Round) → List (List Round)
 changed i f ts = slice_set ts i (f (slice_index_or ts i []))
 
-after_valid : (ts : List (List Round)) (c : Command) → rounds_machine.valid ts ≡ true → rounds_lawful c ≡ true →
+after_valid : PlacingFacts → (ts : List (List Round)) (c : Command) → rounds_machine.valid ts ≡ true → rounds_lawful c ≡ true →
     rounds_machine.valid (cards_after ts c) ≡ true
-after_valid ts c e p =
+after_valid f ts c e p =
     let h = eight_cards ts e in
     let t = card_after c (slice_index_or ts c.subject []) in
     and_from (length (slice_set ts c.subject t) == 8) (are_cards (slice_set ts c.subject t))
     (eq-eqb (length (slice_set ts c.subject t)) 8 (length-set ts c.subject t ∙ h.0))
-    (cards_set ts c.subject t h.1 (after_card c (slice_index_or ts c.subject []) p (cards_at ts c.subject h.1)))
+    (cards_set ts c.subject t h.1 (after_card f c (slice_index_or ts c.subject []) p (cards_at ts c.subject h.1)))
 
 -- two changes commute for two players, and for one player if they do on his rounds
 
@@ -79,24 +80,37 @@ posts_else c p e =
     (λ (h : adjusts c ≡ true). absurd (true≢false (sym (and_parts (c.verb == 2) in-day h).0 ∙ e)))
     (or_cases (posts c) (adjusts c) q)
 
-both_post : (ts : List (List Round)) (c d : Command) → c.subject < length ts → c.subject ≡ d.subject →
+-- two rounds may be posted in either order
+
+placed_commute : PlacingFacts → (a b : Round) (xs : List Round) → placed a (placed b xs) ≡ placed b (placed a xs)
+placed_commute k a b xs =
+    ⊎_elim
+    (λ (f : ahead a b ≡ true). k.either_first a b xs f)
+    (λ (f : ahead a b ≡ false). sym (k.either_first b a xs (ahead_total a b f)))
+    (cases_Bool (ahead a b))
+
+posted_commute : PlacingFacts → (a b : Round) (xs : List Round) → posted a (posted b xs) ≡ posted b (posted a xs)
+posted_commute k a b xs =
+    k.past 20 a (placed b xs) ∙ ap (take 20) (placed_commute k a b xs) ∙ sym (k.past 20 b (placed a xs))
+
+both_post : PlacingFacts → (ts : List (List Round)) (c d : Command) → c.subject < length ts → c.subject ≡ d.subject →
     (c.verb == 1) ≡ true → (d.verb == 1) ≡ true → cards_after (cards_after ts c) d ≡ cards_after (cards_after ts d) c
-both_post ts c d lt s a b =
+both_post k ts c d lt s a b =
     let xs = get_or ts c.subject [] in
     let m : card_after c (card_after d xs) ≡ card_after d (card_after c xs) =
-    simp (a, b) (posted_commute (round_of c) (round_of d) xs) in
-    subst (λ (k : ℕ). changed k (card_after d) (cards_after ts c) ≡ changed c.subject (card_after c) (changed k (card_after d) ts)) s
+    simp (a, b) (posted_commute k (round_of c) (round_of d) xs) in
+    subst (λ (i : ℕ). changed i (card_after d) (cards_after ts c) ≡ changed c.subject (card_after c) (changed i (card_after d) ts)) s
     (one_player ts c.subject (card_after c) (card_after d) lt m)
 
-commute : (ts : List (List Round)) (c d : Command) → rounds_machine.valid ts ≡ true → rounds_lawful c ≡ true →
+commute : PlacingFacts → (ts : List (List Round)) (c d : Command) → rounds_machine.valid ts ≡ true → rounds_lawful c ≡ true →
     rounds_lawful d ≡ true → players_conflict c d ≡ false → cards_after (cards_after ts c) d ≡ cards_after (cards_after ts d) c
-commute ts c d e p q n =
+commute k ts c d e p q n =
     ⊎_elim
     (λ (z : nat_eq c.subject d.subject ≡ true).
     let w = or_parts (c.verb == 2) (d.verb == 2) (rw z at n) in
     let len = (eight_cards ts e).0 in
     let lt = subject_below c p in
-    both_post ts c d (omega arith) (eqb-true c.subject d.subject z) (posts_else c p w.0) (posts_else d q w.1))
+    both_post k ts c d (omega arith) (eqb-true c.subject d.subject z) (posts_else c p w.0) (posts_else d q w.1))
     (λ (z : nat_eq c.subject d.subject ≡ false).
     two_players ts c.subject d.subject (card_after c) (card_after d) (eqb-false c.subject d.subject z))
     (cases_Bool (c.subject == d.subject))
@@ -109,17 +123,23 @@ players_either_way c d =
     ap (λ (b : Bool). b && (c.verb == 2 || d.verb == 2)) (eqb_either_way c.subject d.subject)
     ∙ ap (λ (b : Bool). (d.subject == c.subject) && b) (or_comm (c.verb == 2) (d.verb == 2))
 
-pub rounds_runs : Runs rounds_machine
-rounds_runs = record {
+-- the told list is read back to the rounds that it tells
+pub read_back : (ts : List (List Round)) → rounds_machine.valid ts ≡ true → rounds_machine.decode (encode_cards ts) ≡ ts
+read_back ts e =
+    let h = eight_cards ts e in
+    subst (λ (k : ℕ). decode_cards k (encode_cards ts) ≡ ts) h.0 (cards_back ts h.1)
+
+rounds_runs : PlacingFacts → Runs rounds_machine
+rounds_runs f = record {
   something = omega arith;
   starts = refl;
-  back = λ ts e. let h = eight_cards ts e in subst (λ (k : ℕ). decode_cards k (encode_cards ts) ≡ ts) h.0 (cards_back ts h.1);
+  back = read_back;
   long = λ ts e. let h = eight_cards ts e in let l = h.0 in cards_width ts h.1 ∙ omega arith;
-  holds = after_valid;
+  holds = after_valid f;
   symmetric = λ c d. either_way (rounds_lawful c) (rounds_lawful d) _ _ (players_either_way c d);
   unlawful = λ c d e. rw e;
-  commute = λ ts c d e p q n. commute ts c d e p q (or_parts (not (rounds_lawful c && rounds_lawful d)) (players_conflict c d) n).1;
+  commute = λ ts c d e p q n. commute f ts c d e p q (or_parts (not (rounds_lawful c && rounds_lawful d)) (players_conflict c d) n).1;
 }
 
-pub rounds_laws : Laws rounds_kind
-rounds_laws = coded_laws rounds_machine rounds_runs
+pub rounds_laws : PlacingFacts → Laws rounds_kind
+rounds_laws f = coded_laws rounds_machine (rounds_runs f)

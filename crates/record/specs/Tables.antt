@@ -3,7 +3,7 @@ use Rattle.std.specs.Prelude.{◌≡◌, ℕ, zero, suc, ◌<◌, ◌≤◌, tru
 use Rattle.std.proofs.Common.{arith, ap, ◌∙◌, sym}
 use Rattle.std.proofs.lemmas.Bool.Decides.{nat_tests}
 use Rattle.std.proofs.lemmas.Int.{ints}
-use Rattle.std.proofs.lemmas.Bool.{and_parts, and_from, eqb-true, eq-eqb, leb-true, le-leb}
+use Rattle.std.proofs.lemmas.Bool.{and_parts, and_from, eqb-true, eq-eqb, leb-true}
 use Rattle.std.proofs.lemmas.List.{length-set}
 use Rattle.record.specs.Card.{between, is_card, are_cards}
 use Rattle.record.specs.Rounds.{rounds_lawful, card_after, cards_after, encode_cards, rounds_machine, rounds_kind}
@@ -11,23 +11,14 @@ use Rattle.record.specs.Table.{kept, card_sound, cards_sound, table_sound, all_k
 use Rattle.record.specs.declared.command.Command.{Command}
 use Rattle.record.specs.declared.rounds.card.Round.{Round}
 use Rattle.record.specs.declared.rounds.card.Card.{Card}
-use Rattle.record.specs.CardLaws.{after_card}
 use Rattle.record.specs.CodedLaws.{code_tells}
-use Rattle.record.specs.RoundsLaws.{rounds_runs}
+use Rattle.record.specs.RoundsLaws.{read_back}
 
 pub sound_parts : (t : Card) → card_sound t ≡ true → (length t.rounds ≡ 20) × (t.count ≤ 20) × (is_card (kept t) ≡ true)
 sound_parts t e =
     let h = and_parts (length t.rounds == 20) (nat_le t.count 20 && is_card (kept t)) e in
     let k = and_parts (nat_le t.count 20) (is_card (kept t)) h.1 in
     (eqb-true (length t.rounds) 20 h.0, leb-true t.count 20 k.0, k.1)
-
--- the card after a command: what it keeps is what the command makes of what it kept
-pub changed_sound : (c : Command) (t u : Card) → rounds_lawful c ≡ true → card_sound t ≡ true →
-    kept u ≡ card_after c (kept t) → length u.rounds ≡ 20 → u.count ≤ 20 → card_sound u ≡ true
-changed_sound c t u p s e a b =
-    and_from (length u.rounds == 20) (nat_le u.count 20 && is_card (kept u)) (eq-eqb (length u.rounds) 20 a)
-    (and_from (nat_le u.count 20) (is_card (kept u)) (le-leb u.count 20 b)
-    (ap is_card e ∙ after_card c (kept t) p (sound_parts t s).2))
 
 -- what a lawful command that does not post adjusts by
 pub adjusts_by : (c : Command) → rounds_lawful c ≡ true → (c.verb == 1) ≡ false → between (negsuc 99) (pos 100) c.amount ≡ true
@@ -84,7 +75,8 @@ kept_valid ts e =
     (eq-eqb (length (all_kept ts)) 8 (kept_length ts ∙ k.0)) (kept_cards ts k.1)
 
 pub table_tells : (ts : List Card) → table_sound ts ≡ true → rounds_kind.taking.tells (encode_cards (all_kept ts)) ≡ true
-table_tells ts e = code_tells rounds_machine rounds_runs (all_kept ts) (kept_valid ts e)
+table_tells ts e =
+    code_tells rounds_machine (all_kept ts) (read_back (all_kept ts) (kept_valid ts e)) (kept_valid ts e)
 
 -- the told list once the player's card has changed as the command has it
 pub told_after : (ts : List Card) (c : Command) (u : Card) → table_sound ts ≡ true →
@@ -93,4 +85,4 @@ pub told_after : (ts : List Card) (c : Command) (u : Card) → table_sound ts �
 told_after ts c u e k =
     ap encode_cards (kept_set ts c.subject u
     ∙ ap (set (all_kept ts) c.subject) (k ∙ ap (card_after c) (sym (kept_at ts c.subject))))
-    ∙ ap (λ (z : List (List Round)). encode_cards (cards_after z c)) (sym (rounds_runs.back (all_kept ts) (kept_valid ts e)))
+    ∙ ap (λ (z : List (List Round)). encode_cards (cards_after z c)) (sym (read_back (all_kept ts) (kept_valid ts e)))

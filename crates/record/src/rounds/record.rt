@@ -1,5 +1,7 @@
 ghost use Rattle.record.specs.Rounds.{encode_cards, rounds_kind};
 ghost use Rattle.record.specs.Table.{all_kept};
+ghost use Rattle.record.specs.CardLaws.{order_placed, range_placed};
+ghost use Rattle.record.specs.Placing.{placed_ahead, placed_take};
 ghost use Rattle.record.specs.RoundsLaws.{rounds_laws};
 ghost use Rattle.record.specs.Tables.{table_tells};
 
@@ -16,7 +18,8 @@ impl Record for Rounds {
 
     ghost told = { λ x. encode_cards (all_kept x.cards) };
 
-    ghost laws = { rounds_laws };
+    ghost laws = { rounds_laws
+        (record { either_first = placed_ahead; past = placed_take; ordered = order_placed; ranged = range_placed }) };
 
     ghost tellable = { λ x. table_tells x.cards x.sound };
 

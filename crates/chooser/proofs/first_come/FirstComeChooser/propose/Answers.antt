@@ -1,5 +1,5 @@
 use Rattle.std.proofs.Common.{arith}
-use Rattle.chooser.specs.Rules.{ruled_proposes}
+use Rattle.chooser.proofs.Rules.{ruled_proposes}
 use Rattle.chooser.proofs.first_come.FirstComeChooser.propose.Goals as goal
 
 pub returns : goal.returns

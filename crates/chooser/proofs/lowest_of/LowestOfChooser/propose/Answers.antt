@@ -1,5 +1,6 @@
 use Rattle.chooser.specs.LowestOf.{lowest}
-use Rattle.chooser.specs.Rules.{ruled_proposes, lowest_within}
+use Rattle.chooser.specs.Rules.{lowest_within}
+use Rattle.chooser.proofs.Rules.{ruled_proposes}
 use Rattle.chooser.proofs.lowest_of.LowestOfChooser.propose.Goals as goal
 
 pub returns : goal.returns

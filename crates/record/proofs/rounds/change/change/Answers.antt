@@ -4,7 +4,8 @@ use Rattle.record.specs.Card.{adjusted}
 use Rattle.record.specs.Rounds.{card_after}
 use Rattle.record.specs.Table.{kept}
 use Rattle.record.specs.CardLaws.{card_parts}
-use Rattle.record.specs.Tables.{sound_parts, adjusts_by, changed_sound}
+use Rattle.record.specs.Tables.{sound_parts, adjusts_by}
+use Rattle.record.proofs.CardChanged.{changed_sound}
 use Rattle.record.proofs.rounds.change.change.Goals as goal
 
 pub adjust-requires : goal.adjust-requires
