@@ -1,4 +1,6 @@
 // Worked examples of the choosers, as tests.
+#![tactic(auto)]
+
 #[cfg(test)]
 mod first_come;
 #[cfg(test)]

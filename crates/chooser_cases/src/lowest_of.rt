@@ -1,6 +1,5 @@
 use chooser::chooser::Chooser;
 use chooser::lowest_of::LowestOf;
-use chooser::refusal::Refusal;
 use std::test::Fail;
 
 // Of the arrivals 5, 1, 0 only the first two count, and 1 is the lower of them.

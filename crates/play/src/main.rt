@@ -1,4 +1,6 @@
 // Plays the commands that are typed on standard input, and prints what came of them.
+#![tactic(auto)]
+
 use std::io::Read;
 
 fn main(rt: HostRuntime) -> anyhow::Result<()> {

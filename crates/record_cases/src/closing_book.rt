@@ -28,7 +28,7 @@ fn a_closed_book_leaves_the_list(rt: HostRuntime) -> Result<(), Fail> {
     ];
     for (commands, list) in cases {
         let told = after::<Book>(commands).tell(rt.alloc())?;
-        assert_eq!(rt; told.as_slice(), &list);
+        assert_eq!(rt; told.as_slice(), list.as_slice());
     }
     Ok(())
 }
@@ -47,7 +47,7 @@ fn a_turn_is_lawful_with_zeros_alone(rt: HostRuntime) {
         (command(253, 0, 0, 0), false),
     ];
     for (given, lawful) in cases {
-        assert_eq!(rt; ClosingBookRecord::<Kitty>::is_lawful(given), lawful);
+        assert_eq!(rt; <Book as Record>::is_lawful(given), lawful);
     }
 }
 
@@ -56,16 +56,16 @@ fn a_closed_book_still_refuses(rt: HostRuntime) -> Result<(), Fail> {
     let mut book = after::<Book>(&[close()]);
     assert_eq!(rt; book.take(command(1, 0, 0, 0)), Err(Unlawful));
     assert_eq!(rt; book.take(command(254, 0, 0, 7)), Err(Unlawful));
-    assert_eq!(rt; book.tell(rt.alloc())?.as_slice(), &[1, 0]);
+    assert_eq!(rt; book.tell(rt.alloc())?.as_slice(), [1, 0].as_slice());
     Ok(())
 }
 
 #[test]
 fn a_turn_conflicts_with_every_command(rt: HostRuntime) {
     let pay = command(1, 0, 0, 5);
-    assert!(rt; ClosingBookRecord::<Kitty>::in_conflict(open(), pay));
-    assert!(rt; ClosingBookRecord::<Kitty>::in_conflict(pay, close()));
-    assert!(rt; ClosingBookRecord::<Kitty>::in_conflict(close(), close()));
-    assert!(rt; ClosingBookRecord::<Kitty>::in_conflict(command(255, 9, 9, 9), pay));
-    assert!(rt; !ClosingBookRecord::<Kitty>::in_conflict(pay, pay));
+    assert!(rt; <Book as Record>::in_conflict(open(), pay));
+    assert!(rt; <Book as Record>::in_conflict(pay, close()));
+    assert!(rt; <Book as Record>::in_conflict(close(), close()));
+    assert!(rt; <Book as Record>::in_conflict(command(255, 9, 9, 9), pay));
+    assert!(rt; !<Book as Record>::in_conflict(pay, pay));
 }

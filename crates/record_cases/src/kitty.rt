@@ -24,7 +24,7 @@ fn a_draw_needs_its_amount(rt: HostRuntime) -> Result<(), Fail> {
     ];
     for (commands, balance) in cases {
         let told = after::<Kitty>(commands).tell(rt.alloc())?;
-        assert_eq!(rt; told.as_slice(), &[balance]);
+        assert_eq!(rt; told.as_slice(), [balance].as_slice());
     }
     Ok(())
 }
@@ -36,11 +36,20 @@ fn paying_stops_at_the_maximum(rt: HostRuntime) -> Result<(), Fail> {
     for _ in 0..143_165 {
         assert_eq!(rt; kitty.take(pay(30_000)), Ok(()));
     }
-    assert_eq!(rt; kitty.tell(rt.alloc())?.as_slice(), &[4_294_950_000]);
+    assert_eq!(rt;
+        kitty.tell(rt.alloc())?.as_slice(),
+        [4_294_950_000].as_slice()
+    );
     assert_eq!(rt; kitty.take(pay(17_295)), Ok(()));
-    assert_eq!(rt; kitty.tell(rt.alloc())?.as_slice(), &[4_294_967_295]);
+    assert_eq!(rt;
+        kitty.tell(rt.alloc())?.as_slice(),
+        [4_294_967_295].as_slice()
+    );
     assert_eq!(rt; kitty.take(pay(1)), Ok(()));
-    assert_eq!(rt; kitty.tell(rt.alloc())?.as_slice(), &[4_294_967_295]);
+    assert_eq!(rt;
+        kitty.tell(rt.alloc())?.as_slice(),
+        [4_294_967_295].as_slice()
+    );
     Ok(())
 }
 
@@ -68,7 +77,7 @@ fn an_unlawful_command_gets_10(rt: HostRuntime) -> Result<(), Fail> {
     let mut kitty = after::<Kitty>(&[pay(7)]);
     assert_eq!(rt; kitty.take(pay(0)), Err(Unlawful));
     assert_eq!(rt; Unlawful.number(), 10);
-    assert_eq!(rt; kitty.tell(rt.alloc())?.as_slice(), &[7]);
+    assert_eq!(rt; kitty.tell(rt.alloc())?.as_slice(), [7].as_slice());
     Ok(())
 }
 

@@ -1,4 +1,6 @@
 // Worked examples of the four kinds of record, as tests.
+#![tactic(auto)]
+
 #[cfg(test)]
 mod closing_book;
 #[cfg(test)]

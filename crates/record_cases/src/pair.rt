@@ -30,7 +30,7 @@ fn even_subjects_go_left_and_odd_ones_right(rt: HostRuntime) -> Result<(), Fail>
     ];
     for (commands, balances) in cases {
         let told = after::<Kitties>(commands).tell(rt.alloc())?;
-        assert_eq!(rt; told.as_slice(), &balances);
+        assert_eq!(rt; told.as_slice(), balances.as_slice());
     }
     Ok(())
 }
@@ -40,13 +40,13 @@ fn two_sides_never_conflict(rt: HostRuntime) {
     let draw_left = command(2, 0, 0, 5);
     let draw_right = command(2, 1, 0, 5);
     let nowhere = command(2, 2, 0, 5);
-    assert!(rt; PairRecord::<Kitty, Kitty>::is_lawful(draw_right));
-    assert!(rt; !PairRecord::<Kitty, Kitty>::is_lawful(nowhere));
-    assert!(rt; !PairRecord::<Kitty, Kitty>::in_conflict(draw_left, draw_right));
-    assert!(rt; !PairRecord::<Kitty, Kitty>::in_conflict(draw_right, draw_left));
-    assert!(rt; PairRecord::<Kitty, Kitty>::in_conflict(draw_left, draw_left));
-    assert!(rt; PairRecord::<Kitty, Kitty>::in_conflict(draw_right, draw_right));
-    assert!(rt; PairRecord::<Kitty, Kitty>::in_conflict(draw_left, nowhere));
+    assert!(rt; <Kitties as Record>::is_lawful(draw_right));
+    assert!(rt; !<Kitties as Record>::is_lawful(nowhere));
+    assert!(rt; !<Kitties as Record>::in_conflict(draw_left, draw_right));
+    assert!(rt; !<Kitties as Record>::in_conflict(draw_right, draw_left));
+    assert!(rt; <Kitties as Record>::in_conflict(draw_left, draw_left));
+    assert!(rt; <Kitties as Record>::in_conflict(draw_right, draw_right));
+    assert!(rt; <Kitties as Record>::in_conflict(draw_left, nowhere));
 }
 
 // Player 3 of the right is subject 7 of the pair; the book is turned by subject 1.
@@ -63,6 +63,6 @@ fn a_kitty_beside_a_closing_book_over_rounds(rt: HostRuntime) -> Result<(), Fail
     assert_eq!(rt; told[0], 50);
     assert_eq!(rt; told[1], 1);
     let card = 2 + 3 * 41;
-    assert_eq!(rt; &told[card..card + 5], &[1, 100, 9_996, 0, 0]);
+    assert_eq!(rt; &told[card..card + 5], [1, 100, 9_996, 0, 0].as_slice());
     Ok(())
 }

@@ -27,7 +27,7 @@ fn later_days_first_and_lower_amounts_first(rt: HostRuntime) -> Result<(), Fail>
     let want = [
         5, 9, 10_003, 9, 10_003, 5, 9_993, 5, 10_007, 0, 10_999, 0, 0,
     ];
-    assert_eq!(rt; &told[card..card + 13], &want);
+    assert_eq!(rt; &told[card..card + 13], want.as_slice());
     assert_eq!(rt; told[0], 0);
     Ok(())
 }
@@ -44,8 +44,8 @@ fn the_twenty_first_pushes_out_the_last(rt: HostRuntime) -> Result<(), Fail> {
     assert!(rt; rounds.take(post(0, 100, 40)).is_ok());
     let told = rounds.tell(rt.alloc())?;
     assert!(rt; told.len() == 328);
-    assert_eq!(rt; &told[0..5], &[20, 100, 10_040, 100, 10_050]);
-    assert_eq!(rt; &told[39..42], &[100, 10_050, 0]);
+    assert_eq!(rt; &told[0..5], [20, 100, 10_040, 100, 10_050].as_slice());
+    assert_eq!(rt; &told[39..42], [100, 10_050, 0].as_slice());
     Ok(())
 }
 
@@ -59,8 +59,8 @@ fn an_adjustment_stops_at_either_end(rt: HostRuntime) -> Result<(), Fail> {
     }
     let ends = rounds.tell(rt.alloc())?;
     assert!(rt; ends.len() == 328);
-    assert_eq!(rt; &ends[0..3], &[1, 1, 19_999]);
-    assert_eq!(rt; &ends[41..44], &[1, 1, 1]);
+    assert_eq!(rt; &ends[0..3], [1, 1, 19_999].as_slice());
+    assert_eq!(rt; &ends[41..44], [1, 1, 1].as_slice());
     assert!(rt; rounds.take(adjust(0, -100)).is_ok());
     let told = rounds.tell(rt.alloc())?;
     assert!(rt; told.len() == 328);

@@ -1,5 +1,6 @@
 -- What is printed of the list that a record tells.
-use Rattle.std.specs.Prelude.{ℕ, zero, suc, ◌+◌, ◌*◌, min, cond, List, [], ◌∷◌, ◌++◌, pos, ◌-ℤ◌, codes, decimal, ◌==◌, slice_index}
+use Rattle.std.specs.Prelude.{ℕ, zero, suc, ◌+◌, ◌*◌, min, cond}
+use Rattle.std.specs.Prelude.{List, [], ◌∷◌, ◌++◌, pos, ◌-ℤ◌, codes, decimal, ◌==◌, slice_index}
 use Rattle.std.specs.Fmt.{signed_decimal}
 
 -- the balance, which is the first number

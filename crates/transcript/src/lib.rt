@@ -1,4 +1,6 @@
 // What a person types to play a record, and the text that is printed for it.
+#![tactic(auto)]
+
 mod answer;
 mod choice;
 mod command_line;

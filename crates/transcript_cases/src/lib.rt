@@ -1,4 +1,6 @@
 // Inputs of `play` and the text that is printed for each, as tests.
+#![tactic(auto)]
+
 #[cfg(test)]
 mod first_line;
 #[cfg(test)]
