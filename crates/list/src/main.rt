@@ -1,4 +1,6 @@
 // Lists the schedule that stands on the standard input.
+#![tactic(auto)]
+
 use listing::listing::listing_of;
 use std::io::Read;
 

@@ -1,6 +1,8 @@
 -- What a number is read as.
-use Rattle.std.proofs.Common.{◌≡◌, ℕ, ◌+◌, ◌<◌, ◌≤◌, true, false, not, leb, ◌⊎◌, List, drop, is_some, Some, None, Ok, Err, Option, refl, ap, ⊎_elim, arith}
-use Rattle.std.proofs.lemmas.Bool.{lt-leb, le-leb, leb-true, cond-true, cond-false, cases_Bool, and_left, and_right, and_from, and_parts, not-true, not_from_true, not_from_false}
+use Rattle.std.proofs.Common.{◌≡◌, ℕ, ◌+◌, ◌<◌, ◌≤◌, true, false, not, leb, List, drop, is_some, Some, None, Ok, Err, Option}
+use Rattle.std.proofs.Common.{refl, ap, ⊎_elim, arith}
+use Rattle.std.proofs.lemmas.Bool.{lt-leb, le-leb, leb-true, cond-true, cond-false, cases_Bool, and_left, and_right, and_from}
+use Rattle.std.proofs.lemmas.Bool.{and_parts, not-true, not_from_true, not_from_false}
 use Rattle.schedule.specs.declared.fault.NumberFault.TheVariants.{CutShort, Unfit}
 use Rattle.schedule.specs.Numbers.{front, overlong, judged, fit, number_at, Longer}
 use Rattle.schedule.proofs.Large.{longer_large}

@@ -1,5 +1,6 @@
 -- A number of many groups is large, unless it is longer than need be.
-use Rattle.std.proofs.Common.{◌≡◌, ℕ, zero, suc, ◌+◌, ◌-◌, ◌*◌, ◌%◌, ◌<◌, ◌≤◌, false, eqb, ltb, ◌⊎◌, List, [], ◌∷◌, get_or, Some, None, Option, sym, refl, ap, ◌∙◌, ⊎_elim, arith}
+use Rattle.std.proofs.Common.{◌≡◌, ℕ, zero, suc, ◌+◌, ◌-◌, ◌*◌, ◌%◌, ◌<◌, ◌≤◌, false, eqb, ltb, List, [], ◌∷◌, get_or, Some, None}
+use Rattle.std.proofs.Common.{Option, sym, refl, ap, ◌∙◌, ⊎_elim, arith}
 use Rattle.std.proofs.lemmas.Bool.{cases_lt, and_cases, ltb-false, eqb-false}
 use Rattle.schedule.specs.Numbers.{front, below, overlong}
 use Rattle.schedule.proofs.Fronts.{front_last, front_more, more_none}

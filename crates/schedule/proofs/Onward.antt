@@ -1,5 +1,5 @@
 -- What is read leads on.
-use Rattle.std.proofs.Common.{◌≡◌, ℕ, ◌+◌, ◌<◌, ◌≤◌, leb, ◌⊎◌, List, length, take, drop, Ok, sym, ap, ◌∙◌, ⊎_elim, arith}
+use Rattle.std.proofs.Common.{◌≡◌, ℕ, ◌+◌, ◌<◌, ◌≤◌, leb, List, length, take, drop, Ok, sym, ap, ◌∙◌, ⊎_elim, arith}
 use Rattle.record.specs.declared.command.Command.{Command}
 use Rattle.schedule.specs.declared.fault.EntryFault.TheVariants.{InNumber, InCommand, BodyTooLong}
 use Rattle.schedule.specs.Numbers.{front, number_at}

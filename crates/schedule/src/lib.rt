@@ -1,4 +1,6 @@
 // Schedules as bytes: their format and its laws, and a reader of entries and headers.
+#![tactic(auto)]
+
 pub mod draft;
 pub mod entry;
 pub mod fault;

@@ -1,4 +1,6 @@
 // Schedules by example, with bytes worked out by hand.
+#![tactic(auto)]
+
 #[cfg(test)]
 mod faults;
 #[cfg(test)]

@@ -1,6 +1,7 @@
 -- Numbers written one after the other.
 use Rattle.std.proofs.Common.{◌≡◌, ℕ, ◌+◌, ◌<◌, ◌≤◌, List, [], ◌∷◌, ◌++◌, length, get_or, take, drop, sym, refl, ap, ◌∙◌, arith}
-use Rattle.std.proofs.lemmas.List.{take-append-drop, take_more, flat_map_more, length-append, append_assoc, take_at, drop_at, drop-drop}
+use Rattle.std.proofs.lemmas.List.{take-append-drop, take_more, flat_map_more, length-append, append_assoc, take_at, drop_at}
+use Rattle.std.proofs.lemmas.List.{drop-drop}
 use Rattle.schedule.specs.Numbers.{spell}
 use Rattle.schedule.specs.Drafts.{spelled}
 

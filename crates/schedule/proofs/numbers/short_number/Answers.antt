@@ -27,8 +27,8 @@ returns-in-len3-up c =
     }
 
 -- there is no byte
-pub returns-in-default : goal.returns-in-default
-returns-in-default c =
+pub returns-in_default : goal.returns-in_default
+returns-in_default c =
     record {
       value = longer c.args.bytes.now
           (λ h. omega (arith, ltb-true)) (λ h. omega (arith, ltb-true)) (λ h. omega (arith, ltb-true));
@@ -36,8 +36,8 @@ returns-in-default c =
     }
 
 -- there is one, which does not end it
-pub returns-in-default·2 : goal.returns-in-default·2
-returns-in-default·2 c =
+pub returns-in_default-2 : goal.returns-in_default-2
+returns-in_default-2 c =
     record {
       value = longer c.args.bytes.now
           (λ h. omega (arith, ltb-true)) (λ h. omega (arith, ltb-true)) (λ h. omega (arith, ltb-true));
@@ -45,8 +45,8 @@ returns-in-default·2 c =
     }
 
 -- there are two, which do not end it
-pub returns-in-default·3 : goal.returns-in-default·3
-returns-in-default·3 c =
+pub returns-in_default-3 : goal.returns-in_default-3
+returns-in_default-3 c =
     record {
       value = longer c.args.bytes.now
           (λ h. omega (arith, ltb-true)) (λ h. omega (arith, ltb-true)) (λ h. omega (arith, ltb-true));
@@ -54,8 +54,8 @@ returns-in-default·3 c =
     }
 
 -- none of three ends it
-pub returns-in-default·4 : goal.returns-in-default·4
-returns-in-default·4 c =
+pub returns-in_default-4 : goal.returns-in_default-4
+returns-in_default-4 c =
     record {
       value = longer c.args.bytes.now (λ h. omega arith) (λ h. omega arith) (λ h. omega arith);
       fits = tt;

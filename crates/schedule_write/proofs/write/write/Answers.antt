@@ -6,8 +6,8 @@ use Rattle.schedule_write.proofs.Growing.{length_more, room, one_more}
 use Rattle.schedule_write.proofs.write.write.Goals as goal
 
 -- the next number has room
-pub put_at-requires : goal.put_at-requires
-put_at-requires c =
+pub put-at-requires : goal.put-at-requires
+put-at-requires c =
     let ns = take (c.in_ok-list.count - 0) c.in_ok-list.list in
     let l = c.loop-value in
     room ns l.value-index l.at (length l.buffer) (omega arith) l.invariant.0 (omega arith)
@@ -19,7 +19,7 @@ loop-value-preserved c =
     let was = c.args.buffer.now in
     let l = c.loop-value in
     let i = l.value-index in
-    let put = c.put_at in
+    let put = c.put-at in
     let more = length_more ns i (omega arith) in (
       omega arith,
       one_more ns was l.buffer put.new.buffer i l.at (omega arith) l.invariant.0 l.invariant.1
