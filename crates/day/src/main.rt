@@ -1,4 +1,6 @@
 // Runs the day that stands on the standard input, and prints what came of it.
+#![tactic(auto)]
+
 use report::report::report_of;
 use std::io::Read;
 

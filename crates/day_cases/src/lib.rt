@@ -1,4 +1,6 @@
 // Inputs of the program `day` and the text that they get, as tests.
+#![tactic(auto)]
+
 #[cfg(test)]
 mod days;
 #[cfg(test)]

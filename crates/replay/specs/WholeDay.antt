@@ -13,8 +13,8 @@ use Rattle.replay.specs.Runs.{Runs}
 use Rattle.replay.specs.declared.tally.Tally.{Tally}
 
 -- The world u is started and becomes v, the entries are given to it, and what they leave, w, keeps every promise of a day.
-pub record Ran (K : Kind) (z : RingSize) (bytes : List ℕ) (p : ℕ) (u : World) (M : Meaning) (t : Tally) (w : World) (N : Meaning) :
-    Type 0 where
+pub record Ran (K : Kind) (z : RingSize) (bytes : List ℕ) (p : ℕ) (u : World) (M : Meaning) (t : Tally) (w : World)
+    (N : Meaning) : Type 0 where
   pub v : World
   pub starts : Starts z u M (Ok tt) v
   pub runs : Runs K bytes p v M w N t.accepted t.refused t.fault

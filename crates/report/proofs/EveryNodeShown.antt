@@ -1,5 +1,5 @@
 -- After a day every node's sheet can be shown, so that every node has its line.
-use Rattle.std.proofs.Common.{◌≡◌, ℕ, ◌<◌, Bool, true, false, List, [], length, is_ok, Some, None, Ok, Err, Option, Result, refl, ap}
+use Rattle.std.proofs.Common.{◌≡◌, ℕ, ◌<◌, [], length, is_ok, Some, None, Ok, Option, refl, ap}
 use Rattle.std.proofs.lemmas.Bool.{false≢true}
 use Rattle.record.specs.Kind.{Kind}
 use Rattle.chooser.specs.Meaning.{Meaning}

@@ -40,7 +40,8 @@ head_text node stage live =
 -- the line of a node: that, and then the numbers on its sheet
 abbrev pub node_text : World → ℕ → List ℕ
 node_text w node =
-    (head_text node (row_of w node).stage (not (has_crashed w.ring node)) ++ flat_map message_text (sheet_of w node)) ++ codes "\n"
+    (head_text node (row_of w node).stage (not (has_crashed w.ring node)) ++ flat_map message_text (sheet_of w node))
+    ++ codes "\n"
 
 -- the lines of the nodes below n
 unfoldable pub nodes_text : World → ℕ → List ℕ

@@ -1,5 +1,6 @@
 -- What the program `day` prints for its input.
-use Rattle.std.specs.Prelude.{◌≡◌, ℕ, Bool, true, false, List, ◌++◌, length, replicate, Some, None, Ok, Err, Option, Result, nat_lt}
+use Rattle.std.specs.Prelude.{◌≡◌, ℕ, Bool, true, false, List, ◌++◌, length, replicate, Some, None, Ok, Err, Option, Result}
+use Rattle.std.specs.Prelude.{nat_lt}
 use Rattle.record.specs.Kind.{Kind}
 use Rattle.record.specs.Kitty.{kitty_kind}
 use Rattle.record.specs.Rounds.{rounds_kind}

@@ -1,4 +1,6 @@
 // The text of a day: what the program `day` prints for its input.
+#![tactic(auto)]
+
 pub mod day;
 pub mod lines;
 pub mod report;

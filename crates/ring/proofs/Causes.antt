@@ -1,5 +1,6 @@
 -- What follows where no cause turns a call down.
-use Rattle.std.proofs.Common.{◌≡◌, ℕ, ◌<◌, Bool, true, false, cond, not, ◌||◌, eqb, ltb, leb, List, length, Some, None, Option, sym, refl, ap, subst, arith}
+use Rattle.std.proofs.Common.{◌≡◌, ℕ, ◌<◌, Bool, true, false, cond, not, ◌||◌, eqb, ltb, leb, List, length, Some, None, Option}
+use Rattle.std.proofs.Common.{sym, refl, ap, subst, arith}
 use Rattle.std.proofs.lemmas.Bool.{or_parts, not-false, leb-false, eqb-true}
 use Rattle.chooser.specs.Meaning.{served, has_proposed, proposal_refusal}
 use Rattle.chooser.specs.declared.proposal.Proposal.{Proposal}

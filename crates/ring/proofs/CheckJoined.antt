@@ -1,8 +1,10 @@
 -- A receipt of a check is a call of the protocol: it is kept, or it passes.
-use Rattle.std.proofs.Common.{◌≡◌, ℕ, zero, suc, ◌+◌, ◌<◌, ◌≤◌, Bool, true, false, cond, ◌||◌, eqb, ltb, ◌⊎◌, List, length, get_or, set, sym, refl, ap, ◌∙◌, subst, ap₂, inl, inr, add-one, arith}
+use Rattle.std.proofs.Common.{◌≡◌, ℕ, zero, suc, ◌+◌, ◌<◌, ◌≤◌, Bool, true, false, cond, ◌||◌, eqb, ltb, ◌⊎◌, List, length}
+use Rattle.std.proofs.Common.{get_or, set, sym, refl, ap, ◌∙◌, subst, ap₂, inl, inr, add-one, arith}
 use mathlib.Core.Path.{fun_ext}
 use Rattle.std.proofs.lemmas.List.{get_or-set_same, get_or-set_other, length-set}
-use Rattle.std.proofs.lemmas.Bool.{cases_Bool, cases_eq, eq-eqb, ne_eqb, ltb-true, ltb-false, cond-true, cond-false, and_from, and_parts, and_cases, and_right, not-true, not-false}
+use Rattle.std.proofs.lemmas.Bool.{cases_Bool, cases_eq, eq-eqb, ne_eqb, ltb-true, ltb-false, cond-true, cond-false, and_from}
+use Rattle.std.proofs.lemmas.Bool.{and_parts, and_cases, and_right, not-true, not-false}
 use Rattle.record.specs.Kind.{Kind}
 use Rattle.chooser.specs.Meaning.{Meaning}
 use Rattle.protocol.specs.Ring.{Node as Seen-node}

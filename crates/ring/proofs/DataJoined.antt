@@ -1,7 +1,9 @@
 -- A receipt of data is a call of the protocol: of a message that is known, or the receiver's own, or to be relayed.
-use Rattle.std.proofs.Common.{◌≡◌, ℕ, ◌^◌, ◌<◌, ◌≤◌, Bool, true, false, not, ◌||◌, eqb, sym, refl, ap, ◌∙◌, subst, inl, inr, arith}
+use Rattle.std.proofs.Common.{◌≡◌, ℕ, ◌^◌, ◌<◌, ◌≤◌, Bool, true, false, not, ◌||◌, eqb, sym, refl, ap, ◌∙◌, subst, inl, inr}
+use Rattle.std.proofs.Common.{arith}
 use mathlib.Core.Path.{fun_ext}
-use Rattle.std.proofs.lemmas.Bool.{cases_Bool, cases_eq, both_ways, eqb-true, eq-eqb, ne_eqb, cond-true, cond-false, and_from, and_left, and_right, not_from_true, not_from_false}
+use Rattle.std.proofs.lemmas.Bool.{cases_Bool, cases_eq, both_ways, eqb-true, eq-eqb, ne_eqb, cond-true, cond-false, and_from}
+use Rattle.std.proofs.lemmas.Bool.{and_left, and_right, not_from_true, not_from_false}
 use Rattle.record.specs.Kind.{Kind}
 use Rattle.chooser.specs.Meaning.{Meaning}
 use Rattle.protocol.specs.Nodes.{after_data as after_message}

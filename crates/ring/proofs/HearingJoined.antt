@@ -1,11 +1,13 @@
 -- A receipt of an acknowledgement is a call of the protocol: it is heard, or it passes.
-use Rattle.std.proofs.Common.{◌≡◌, ℕ, ◌-◌, ◌*◌, ◌^◌, ◌<◌, ◌≤◌, Bool, true, false, not, ◌&&◌, ◌||◌, eqb, leb, ◌⊎◌, List, ◌++◌, length, get_or, take, drop, set, sym, refl, ap, ◌∙◌, subst, ap₂, inl, inr, arith}
+use Rattle.std.proofs.Common.{◌≡◌, ℕ, ◌*◌, ◌^◌, ◌<◌, ◌≤◌, Bool, true, false, not, ◌&&◌, ◌||◌, eqb, leb, ◌⊎◌, List, ◌++◌, length}
+use Rattle.std.proofs.Common.{get_or, take, drop, sym, refl, ap, ◌∙◌, subst, ap₂, inl, inr, arith}
 use lib.Bits.{bit_or, or_lt}
 use lib.Count.{ones}
 use lib.ListN.{get_or-eq_default}
 use mathlib.Core.Bool.{and_assoc}
 use mathlib.Core.Path.{fun_ext}
-use Rattle.std.proofs.lemmas.Bool.{cases_Bool, cases_eq, cases_lt, both_ways, eqb-true, eq-eqb, ne_eqb, lt-ltb, lt-leb, and_from, and_parts, and_left, not_from_true, not_from_false, cond-true, cond-false}
+use Rattle.std.proofs.lemmas.Bool.{cases_Bool, cases_eq, cases_lt, both_ways, eqb-true, eq-eqb, ne_eqb, lt-ltb, lt-leb, and_from}
+use Rattle.std.proofs.lemmas.Bool.{and_parts, and_left, not_from_true, not_from_false, cond-true, cond-false}
 use Rattle.record.specs.Kind.{Kind}
 use Rattle.chooser.specs.Meaning.{Meaning}
 use Rattle.protocol.specs.Lists.{ascending}
@@ -42,7 +44,8 @@ missing false false true = refl
 missing false false false = refl
 
 -- the same of masks
-missing_set : (d e u : ℕ) → d < 2 ^ 64 → e < 2 ^ 64 → u < 2 ^ 64 → bit_or d (bit_or e (minus u (bit_or d e))) ≡ bit_or (bit_or d e) u
+missing_set : (d e u : ℕ) → d < 2 ^ 64 → e < 2 ^ 64 → u < 2 ^ 64 →
+    bit_or d (bit_or e (minus u (bit_or d e))) ≡ bit_or (bit_or d e) u
 missing_set d e u hd he hu =
     let both = or_lt 64 d e hd he in
     same_sets 64 _ _ (or_lt 64 d _ hd (or_lt 64 e _ he (minus_small u (bit_or d e) hu))) (or_lt 64 _ u both hu) (λ i l.
@@ -52,7 +55,8 @@ missing_set d e u hd he hu =
     ∙ sym (has_or (bit_or d e) u i ∙ ap (λ (v : Bool). v || has u i) (has_or d e i)))
 
 module _ {K : Kind} {z : RingSize} {need : ℕ} {low : 1 ≤ need} {high : need ≤ z.q} {w : World} {M : Meaning}
-    (j : Joined K z need low high w M) (place : ℕ) (t : Accepted w place) (kind : (letter_at w place).kind ≡ acknowledgement) where
+    (j : Joined K z need low high w M) (place : ℕ) (t : Accepted w place)
+    (kind : (letter_at w place).kind ≡ acknowledgement) where
   -- the letter
   abbrev letter : Letter
   letter = letter_at w place

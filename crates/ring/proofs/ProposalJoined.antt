@@ -1,5 +1,6 @@
 -- The step of a closing node that proposes keeps a world joined to the protocol.
-use Rattle.std.proofs.Common.{◌≡◌, ℕ, zero, suc, ◌+◌, ◌-◌, ◌/◌, ◌<◌, ◌≤◌, Bool, false, cond, not, ◌&&◌, eqb, ltb, leb, List, get_or, None, Ok as Done, Err, Result, sym, refl, ap, ◌∙◌, subst, ap₂, inl, inr, add-one, arith}
+use Rattle.std.proofs.Common.{◌≡◌, ℕ, zero, suc, ◌+◌, ◌/◌, ◌<◌, ◌≤◌, Bool, false, cond, not, ◌&&◌, eqb, ltb, leb, List, get_or}
+use Rattle.std.proofs.Common.{None, Ok as Done, Err, Result, sym, refl, ap, ◌∙◌, subst, ap₂, inl, inr, add-one, arith}
 use mathlib.Core.Path.{fun_ext}
 use Rattle.std.proofs.lemmas.Bool.{cases_Bool, and_parts, or_right, eq-eqb, ne_eqb, le-ltb, cond-true, cond-false, ltb-false}
 use Rattle.record.specs.Kind.{Kind}

@@ -1,8 +1,10 @@
 -- What every receipt that nothing refuses has: the letter is taken, and what it leaves is seen at its receiver alone.
-use Rattle.std.proofs.Common.{◌≡◌, ℕ, ◌+◌, ◌^◌, ◌<◌, ◌≤◌, Bool, true, false, not, ◌&&◌, ltb, List, length, get_or, set, None, sym, refl, ap, ◌∙◌, subst, ap₂, inl, inr, arith}
+use Rattle.std.proofs.Common.{◌≡◌, ℕ, ◌+◌, ◌^◌, ◌<◌, ◌≤◌, Bool, true, false, not, ◌&&◌, ltb, List, length, get_or, set, None, sym}
+use Rattle.std.proofs.Common.{refl, ap, ◌∙◌, subst, ap₂, inl, inr, arith}
 use lib.Count.{ones, ones-le}
 use Rattle.std.proofs.lemmas.List.{get_or-set_same, get_or-set_other, length-set}
-use Rattle.std.proofs.lemmas.Bool.{cases_eq, both_ways, ne_eqb, and_cases, and_left, and_right, cond-true, cond-false, cond_both, ltb-false}
+use Rattle.std.proofs.lemmas.Bool.{cases_eq, both_ways, ne_eqb, and_cases, and_left, and_right, cond-true, cond-false, cond_both}
+use Rattle.std.proofs.lemmas.Bool.{ltb-false}
 use Rattle.record.specs.Kind.{Kind}
 use Rattle.chooser.specs.Meaning.{Meaning}
 use Rattle.protocol.specs.Calls.{Takes, Sends, Becomes, NoneSent, SameNodes, new_letter}

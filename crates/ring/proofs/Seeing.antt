@@ -1,5 +1,6 @@
 -- The world of a ring and the meaning of its chooser, seen as a state of the protocol; and what is known of them besides.
-use Rattle.std.proofs.Common.{◌≡◌, ℕ, zero, suc, ◌*◌, ◌^◌, ◌<◌, ◌≤◌, Bool, true, false, cond, not, eqb, List, [], ◌∷◌, length, get_or, take, drop, Some, None, Option, arith}
+use Rattle.std.proofs.Common.{◌≡◌, ℕ, zero, suc, ◌*◌, ◌^◌, ◌<◌, ◌≤◌, Bool, true, false, cond, not, eqb, List, [], ◌∷◌, length}
+use Rattle.std.proofs.Common.{get_or, take, drop, Some, None, Option, arith}
 use lib.Count.{ones}
 use Rattle.record.specs.Kind.{Kind}
 use Rattle.chooser.specs.Meaning.{Meaning, Sound, has_proposed}
@@ -24,7 +25,8 @@ use Rattle.ring.specs.Promises.{conflict, lives, broadcaster}
 -- the set of the check that is kept from a sender
 unfoldable pub check_from : List Check → ℕ → ℕ → ℕ
 check_from checks x zero = 0
-check_from checks x (suc k) = cond (eqb (get_or checks k no_check).sender x) (get_or checks k no_check).set (check_from checks x k)
+check_from checks x (suc k) =
+    cond (eqb (get_or checks k no_check).sender x) (get_or checks k no_check).set (check_from checks x k)
 
 -- the nonconflicting set that a node proposed
 abbrev pub first_of : List Proposal → ℕ → ℕ

@@ -1,5 +1,6 @@
 -- The step of a closing node that settles its stage keeps a world joined to the protocol.
-use Rattle.std.proofs.Common.{◌≡◌, ℕ, suc, ◌+◌, ◌*◌, ◌^◌, ◌<◌, ◌≤◌, Bool, true, false, cond, not, List, ◌++◌, take, drop, Some, None, Ok as Done, Err, Option, Result, sym, refl, ap, ◌∙◌, subst, ap₂, add-one, arith}
+use Rattle.std.proofs.Common.{◌≡◌, ℕ, suc, ◌+◌, ◌*◌, ◌^◌, ◌<◌, ◌≤◌, Bool, true, false, cond, not, List, ◌++◌, take, drop, Some}
+use Rattle.std.proofs.Common.{None, Ok as Done, Err, Option, Result, sym, refl, ap, ◌∙◌, subst, ap₂, add-one, arith}
 use lib.Bits.{bit_or, or_lt, or_zero_r}
 use lib.Count.{ones, ones-le}
 use mathlib.Core.Path.{fun_ext}

@@ -1,8 +1,10 @@
 -- What writing messages behind the used part of a node's sheet makes of the sheets.
-use Rattle.std.proofs.Common.{◌≡◌, ℕ, zero, suc, ◌+◌, ◌-◌, ◌*◌, ◌^◌, ◌<◌, ◌≤◌, Bool, true, false, cond, not, ◌&&◌, ◌||◌, ◌⊎◌, List, [], ◌∷◌, ◌++◌, length, take, drop, set, sym, refl, ap, ◌∙◌, inl, inr, add-zero, arith}
+use Rattle.std.proofs.Common.{◌≡◌, ℕ, zero, suc, ◌+◌, ◌-◌, ◌*◌, ◌^◌, ◌<◌, ◌≤◌, Bool, true, false, cond, not, ◌&&◌, ◌||◌, ◌⊎◌}
+use Rattle.std.proofs.Common.{List, [], ◌∷◌, ◌++◌, length, take, drop, set, sym, refl, ap, ◌∙◌, inl, inr, add-zero, arith}
 use lib.Bits.{bit_or, or_lt}
 use lib.Count.{ones}
-use Rattle.std.proofs.lemmas.List.{append-nil, append_assoc, length-append, length-set, length-drop, drop-set-lt, drop-set-add, take-set-le, take_more_set}
+use Rattle.std.proofs.lemmas.List.{append-nil, append_assoc, length-append, length-set, length-drop, drop-set-lt, drop-set-add}
+use Rattle.std.proofs.lemmas.List.{take-set-le, take_more_set}
 use Rattle.std.proofs.lemmas.Bool.{cases_lt}
 use Rattle.protocol.specs.Lists.{ascending}
 use Rattle.protocol.specs.Sets.{Set, count, ◌∖◌, ◌∪◌}

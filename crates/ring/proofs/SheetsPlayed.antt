@@ -1,5 +1,6 @@
 -- Playing a sheet from its beginning is never refused, and two sheets with the same messages leave one list.
-use Rattle.std.proofs.Common.{◌≡◌, ℕ, ◌<◌, ◌≤◌, Bool, true, false, cond, not, ◌&&◌, ltb, List, [], ◌∷◌, length, None, Option, Result, sym, refl, ap, ◌∙◌, subst, inl, inr, arith}
+use Rattle.std.proofs.Common.{◌≡◌, ℕ, ◌<◌, ◌≤◌, Bool, true, false, cond, not, ◌&&◌, ltb, List, [], ◌∷◌, length, None, Option}
+use Rattle.std.proofs.Common.{Result, sym, refl, ap, ◌∙◌, subst, inl, inr, arith}
 use Rattle.std.proofs.lemmas.Bool.{cases_lt, cases_eq, and_from, not_from_true, ne_eqb, lt-ltb, le-ltb, cond-true, cond-false}
 use Rattle.record.specs.Kind.{Kind, Laws}
 use Rattle.chooser.specs.Meaning.{Meaning}

@@ -1,5 +1,6 @@
 -- An accepted start joins the world to a start of the protocol.
-use Rattle.std.proofs.Common.{◌≡◌, ℕ, zero, suc, ◌*◌, ◌<◌, ◌≤◌, false, not, eqb, ltb, leb, List, [], length, get_or, take, drop, replicate, None, Option, sym, refl, ap, ◌∙◌, subst, ap₂, inl, inr, arith}
+use Rattle.std.proofs.Common.{◌≡◌, ℕ, zero, suc, ◌*◌, ◌<◌, ◌≤◌, false, not, eqb, ltb, leb, List, [], length, get_or, take, drop}
+use Rattle.std.proofs.Common.{replicate, None, Option, sym, refl, ap, ◌∙◌, subst, ap₂, inl, inr, arith}
 use lib.Count.{ones, ones-ones}
 use Rattle.std.proofs.lemmas.List.{length-replicate, get_or-replicate, nil_from_length}
 use Rattle.std.proofs.lemmas.Bool.{cases_Bool, cases_eq, and_parts, eqb-true, leb-true, ltb-false, not-false, or_parts}

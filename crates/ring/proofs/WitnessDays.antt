@@ -1,5 +1,6 @@
 -- Three days, written down call by call.
-use Rattle.std.proofs.Common.{◌≡◌, ℕ, zero, suc, ◌≤◌, false, set, replicate, pos, Some, None, Ok, Err, Option, Result, sym, refl, ap, ◌∙◌, subst, arith}
+use Rattle.std.proofs.Common.{◌≡◌, ℕ, zero, suc, ◌≤◌, false, set, replicate, pos, Some, None, Ok, Err, Option, Result, sym, refl}
+use Rattle.std.proofs.Common.{ap, ◌∙◌, subst, arith}
 use lib.Count.{ones}
 use Rattle.std.proofs.lemmas.Bool.{le-leb}
 use Rattle.record.specs.Kitty.{kitty_kind}

@@ -1,5 +1,5 @@
 -- What the steps of a closing node make of a world and of the chooser's meaning.
-use Rattle.std.specs.Prelude.{◌≡◌, ℕ, List, Some, None, Ok, Err, Option, Result}
+use Rattle.std.specs.Prelude.{◌≡◌, ℕ, Some, None, Ok, Err, Option, Result}
 use Rattle.chooser.specs.Meaning.{Meaning, Appended, proposal_of, asked}
 use Rattle.chooser.specs.declared.refusal.Refusal.{Refusal as ChooserRefusal}
 use Rattle.rows.specs.Causes.{answer, unless}

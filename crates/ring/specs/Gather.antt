@@ -1,5 +1,5 @@
 -- What the step of a gathering node makes of a world.
-use Rattle.std.specs.Prelude.{◌≡◌, ℕ, ◌+◌, Bool, true, false, List, Some, None, Ok, Err, Option, Result}
+use Rattle.std.specs.Prelude.{◌≡◌, ℕ, ◌+◌, Bool, true, false, Some, None, Ok, Err, Option, Result}
 use Rattle.record.specs.declared.command.Command.{Command}
 use Rattle.rows.specs.Causes.{refuse}
 use Rattle.rows.specs.Conflicts.{conflicted, clash}

@@ -1,5 +1,6 @@
 -- What a receipt makes of a world.
-use Rattle.std.specs.Prelude.{◌≡◌, ℕ, ◌+◌, Bool, true, false, cond, ◌&&◌, List, None, Ok, Err, Option, Result, nat_lt, slice_index_or, slice_set}
+use Rattle.std.specs.Prelude.{◌≡◌, ℕ, ◌+◌, Bool, true, false, cond, ◌&&◌, List, None, Ok, Err, Option, Result, nat_lt}
+use Rattle.std.specs.Prelude.{slice_index_or, slice_set}
 use Rattle.rows.specs.Causes.{refuse, first, outcome, unless}
 use Rattle.rows.specs.Letters.{data_letter, taken, marked, letter_of, sent, no_room}
 use Rattle.rows.specs.Rows.{no_row}

@@ -1,5 +1,6 @@
 -- What is told of a node: its sheet, its stage, and whether it lives.
-use Rattle.std.specs.Prelude.{◌≡◌, ℕ, ◌*◌, Bool, not, List, take, drop, Some, None, Ok, Err, Option, Result, count_ones, slice_index_or}
+use Rattle.std.specs.Prelude.{◌≡◌, ℕ, ◌*◌, Bool, not, List, take, drop, Some, None, Ok, Err, Option, Result, count_ones}
+use Rattle.std.specs.Prelude.{slice_index_or}
 use Rattle.rows.specs.Causes.{first, answer}
 use Rattle.rows.specs.Rows.{no_row, on_sheet}
 use Rattle.rows.specs.declared.refusal.Refusal.{Refusal}

@@ -1,5 +1,6 @@
 -- Rings before and at their start, and what a start makes of a world.
-use Rattle.std.specs.Prelude.{◌≡◌, ℕ, zero, suc, Bool, false, not, ◌||◌, length, replicate, Some, None, Option, Result, ◌==◌, nat_lt}
+use Rattle.std.specs.Prelude.{◌≡◌, ℕ, zero, suc, Bool, false, not, ◌||◌, length, replicate, Some, None, Option, Result, ◌==◌}
+use Rattle.std.specs.Prelude.{nat_lt}
 use Rattle.chooser.specs.Meaning.{Meaning}
 use Rattle.rows.specs.Causes.{refuse, first, outcome, unless}
 use Rattle.rows.specs.Conflicts.{no_command}

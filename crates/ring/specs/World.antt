@@ -1,5 +1,6 @@
 -- The world of a ring: all that a call may change. And the causes that several calls share.
-use Rattle.std.specs.Prelude.{◌≡◌, ℕ, Bool, true, false, not, ◌||◌, List, length, Some, None, Ok, Err, Option, Result, ◌==◌, nat_le, nat_lt, slice_index_or, slice_set}
+use Rattle.std.specs.Prelude.{◌≡◌, ℕ, Bool, true, false, not, ◌||◌, List, length, Some, None, Ok, Err, Option, Result, ◌==◌}
+use Rattle.std.specs.Prelude.{nat_le, nat_lt, slice_index_or, slice_set}
 use Rattle.record.specs.declared.command.Command.{Command}
 use Rattle.rows.specs.Causes.{refuse, first}
 use Rattle.rows.specs.Letters.{no_letter, spoilt, travelling}

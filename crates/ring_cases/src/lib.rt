@@ -1,4 +1,6 @@
 // Worked examples of rings, as tests.
+#![tactic(auto)]
+
 #[cfg(test)]
 mod desk;
 #[cfg(test)]

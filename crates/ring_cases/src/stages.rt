@@ -29,10 +29,10 @@ fn early(rt: HostRuntime) -> Result<(), Fail> {
     for (call, number) in cases {
         assert_eq!(rt; desk.call(call), number);
     }
-    assert_eq!(rt; desk.sheet(0)?, &[]);
+    assert_eq!(rt; desk.sheet(0)?, [].as_slice());
     assert_eq!(rt; desk.call(Call::Receive(15)), 0);
-    assert_eq!(rt; desk.sheet(0)?, &[0]);
-    assert_eq!(rt; desk.sheet(1)?, &[]);
+    assert_eq!(rt; desk.sheet(0)?, [0].as_slice());
+    assert_eq!(rt; desk.sheet(1)?, [].as_slice());
     assert_eq!(rt; desk.chooser.count(1)?, 0);
     assert_eq!(rt; desk.ring.stage(0)?, 1);
     Ok(())
@@ -71,7 +71,7 @@ fn settled(rt: HostRuntime) -> Result<(), Fail> {
     assert_eq!(rt; desk.ring.stage(0)?, 1);
     assert_eq!(rt; step(&mut desk)?, Step::Settled);
     assert_eq!(rt; desk.ring.stage(0)?, 2);
-    assert_eq!(rt; desk.sheet(0)?, &[0, 1]);
+    assert_eq!(rt; desk.sheet(0)?, [0, 1].as_slice());
     assert_eq!(rt; number_of(step(&mut desk)), 17);
     Ok(())
 }
@@ -95,9 +95,9 @@ fn nonconflicting_first(rt: HostRuntime) -> Result<(), Fail> {
         assert_eq!(rt; desk.call(call), 0);
     }
     assert_eq!(rt; desk.chooser.decision(1)?, Some((2, 1)));
-    assert_eq!(rt; desk.sheet(0)?, &[1, 0]);
+    assert_eq!(rt; desk.sheet(0)?, [1, 0].as_slice());
     assert_eq!(rt; desk.call(Call::Receive(2)), 0);
-    assert_eq!(rt; desk.sheet(0)?, &[1, 0]);
+    assert_eq!(rt; desk.sheet(0)?, [1, 0].as_slice());
     Ok(())
 }
 
@@ -117,7 +117,7 @@ fn acknowledged_while_closing(rt: HostRuntime) -> Result<(), Fail> {
     for call in calls {
         assert_eq!(rt; desk.call(call), 0);
     }
-    assert_eq!(rt; desk.sheet(0)?, &[]);
+    assert_eq!(rt; desk.sheet(0)?, [].as_slice());
     assert_eq!(rt; desk.call(Call::Step(0)), 18);
     Ok(())
 }
@@ -175,8 +175,8 @@ fn undecided(rt: HostRuntime) -> Result<(), Fail> {
     assert_eq!(rt; desk.call(Call::Receive(11)), 0);
     assert_eq!(rt; step_with(&mut desk, &mut chooser, 1), 0);
     assert_eq!(rt; step_with(&mut desk, &mut chooser, 0), 0);
-    assert_eq!(rt; desk.sheet(0)?, &[0, 1]);
-    assert_eq!(rt; desk.sheet(1)?, &[]);
+    assert_eq!(rt; desk.sheet(0)?, [0, 1].as_slice());
+    assert_eq!(rt; desk.sheet(1)?, [].as_slice());
     Ok(())
 }
 

@@ -18,7 +18,7 @@ fn delivered(rt: &impl Abort) -> Result<Desk, Fail> {
     ] {
         assert_eq!(rt; desk.call(call), 0);
     }
-    assert_eq!(rt; desk.sheet(0)?, &[0, 1]);
+    assert_eq!(rt; desk.sheet(0)?, [0, 1].as_slice());
     Ok(desk)
 }
 
@@ -32,19 +32,19 @@ fn catches_up(rt: HostRuntime) -> Result<(), Fail> {
             .catch_up(&mut kitty, &desk.tray, &desk.book, &desk.sheets, 0, 1)?,
         2
     );
-    assert_eq!(rt; kitty.tell(rt.alloc())?.as_slice(), &[50]);
+    assert_eq!(rt; kitty.tell(rt.alloc())?.as_slice(), [50].as_slice());
     assert_eq!(rt;
         desk.ring
             .catch_up(&mut kitty, &desk.tray, &desk.book, &desk.sheets, 0, 2)?,
         2
     );
-    assert_eq!(rt; kitty.tell(rt.alloc())?.as_slice(), &[50]);
+    assert_eq!(rt; kitty.tell(rt.alloc())?.as_slice(), [50].as_slice());
     assert_eq!(rt;
         desk.ring
             .catch_up(&mut kitty, &desk.tray, &desk.book, &desk.sheets, 0, 0)?,
         2
     );
-    assert_eq!(rt; kitty.tell(rt.alloc())?.as_slice(), &[150]);
+    assert_eq!(rt; kitty.tell(rt.alloc())?.as_slice(), [150].as_slice());
     Ok(())
 }
 
@@ -79,7 +79,7 @@ fn cannot_catch_up(rt: HostRuntime) -> Result<(), Fail> {
     desk.sheets[1] = 1;
     desk.book[1] = UNLAWFUL;
     assert_eq!(rt; caught(&desk, &mut kitty, 0), 22);
-    assert_eq!(rt; kitty.tell(rt.alloc())?.as_slice(), &[0]);
+    assert_eq!(rt; kitty.tell(rt.alloc())?.as_slice(), [0].as_slice());
     Ok(())
 }
 

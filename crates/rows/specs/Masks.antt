@@ -1,5 +1,6 @@
 -- Sets of small numbers as masks: i is in the set exactly if binary digit i of the mask is 1.
-use Rattle.std.specs.Prelude.{ℕ, zero, suc, ◌+◌, ◌-◌, ◌/◌, ◌%◌, ◌^◌, Bool, false, cond, ◌||◌, List, [], ◌∷◌, ◌++◌, set, ◌==◌, bit_and, bit_or, slice_set}
+use Rattle.std.specs.Prelude.{ℕ, zero, suc, ◌+◌, ◌-◌, ◌/◌, ◌%◌, ◌^◌, Bool, false, cond, ◌||◌, List, [], ◌∷◌, ◌++◌, ◌==◌, bit_and}
+use Rattle.std.specs.Prelude.{bit_or, slice_set}
 
 -- whether i is in the set
 abbrev pub has : ℕ → ℕ → Bool

@@ -1,5 +1,6 @@
 -- What a closing node proposes.
-use Rattle.std.specs.Prelude.{◌≡◌, ℕ, zero, suc, ◌+◌, ◌/◌, Bool, cond, List, Some, None, Ok, Err, Option, Result, nat_le, nat_lt, slice_index_or}
+use Rattle.std.specs.Prelude.{◌≡◌, ℕ, zero, suc, ◌+◌, ◌/◌, Bool, cond, List, Some, None, Ok, Err, Option, Result, nat_le, nat_lt}
+use Rattle.std.specs.Prelude.{slice_index_or}
 use Rattle.chooser.specs.Meaning.{Meaning, Appended, proposal_refusal, proposal_of}
 use Rattle.chooser.specs.declared.refusal.Refusal.{Refusal as ChooserRefusal}
 use Rattle.rows.specs.Causes.{refuse}

@@ -1,5 +1,6 @@
 -- What a letter does to its receiver's row and sheet.
-use Rattle.std.specs.Prelude.{ℕ, zero, suc, ◌+◌, Bool, true, false, cond, not, ◌&&◌, ◌||◌, List, set, ◌==◌, bit_or, count_ones, nat_le, nat_lt, slice_index, slice_index_or, slice_set}
+use Rattle.std.specs.Prelude.{ℕ, zero, suc, Bool, true, false, cond, not, ◌&&◌, ◌||◌, List, ◌==◌, bit_or, count_ones, nat_le}
+use Rattle.std.specs.Prelude.{nat_lt, slice_index, slice_index_or, slice_set}
 use Rattle.rows.specs.Letters.{data_letter, acknowledgement, check_letter}
 use Rattle.rows.specs.Masks.{has, added, minus, within, those, any, members, put}
 use Rattle.rows.specs.Rows.{no_check, on_sheet, sheet_end, with_received, with_heard, with_check}

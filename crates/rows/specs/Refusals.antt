@@ -4,7 +4,8 @@ use Rattle.rows.specs.declared.refusal.Refusal.{Refusal}
 use Rattle.rows.specs.declared.refusal.Refusal.TheVariants.{NodesOutOfRange, QuorumTooLarge, QuorumTooSmall, WrongTableSize}
 use Rattle.rows.specs.declared.refusal.Refusal.TheVariants.{NeedAboveQuorum, ChooserInUse, NotStarted, NoSuchNode, NodeCrashed}
 use Rattle.rows.specs.declared.refusal.Refusal.TheVariants.{UnlawfulCommand, BookFull, TrayFull, PlaceUnused, NotTravelling}
-use Rattle.rows.specs.declared.refusal.Refusal.TheVariants.{SpoiltLetter, LaterStage, NothingNew, TooFewChecks, Undecided, Chooser}
+use Rattle.rows.specs.declared.refusal.Refusal.TheVariants.{SpoiltLetter, LaterStage, NothingNew, TooFewChecks, Undecided}
+use Rattle.rows.specs.declared.refusal.Refusal.TheVariants.{Chooser}
 use Rattle.rows.specs.declared.refusal.Refusal.TheVariants.{NobodyCrashed, Unplayable, MarkBeyondSheet}
 
 abbrev pub number_of : Refusal → ℕ

@@ -1,9 +1,9 @@
 -- A node's row: its parts, a setter for each of them, and the sets that a node works out.
-use Rattle.std.specs.Prelude.{ℕ, ◌+◌, ◌*◌, Bool, true, false, List, [], set, replicate, bit_or, count_ones}
+use Rattle.std.specs.Prelude.{ℕ, ◌+◌, ◌*◌, true, false, List, [], set, replicate, bit_or, count_ones}
 use Rattle.rows.specs.Masks.{minus}
 use Rattle.rows.specs.declared.row.Check.{Check}
 use Rattle.rows.specs.declared.row.Phase.{Phase}
-use Rattle.rows.specs.declared.row.Phase.TheVariants.{Gathering, Closing}
+use Rattle.rows.specs.declared.row.Phase.TheVariants.{Gathering}
 use Rattle.rows.specs.declared.row.Row.{Row}
 
 -- an unused place among the checks

@@ -1,4 +1,6 @@
 // What a ring is made of: its size, its letters, the rows of its nodes, and what each event makes of a row.
+#![tactic(auto)]
+
 pub mod conflict;
 pub mod letter;
 pub(crate) mod mask;

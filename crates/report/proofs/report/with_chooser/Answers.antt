@@ -4,9 +4,9 @@ use Rattle.schedule.specs.declared.header.RecordKind.TheVariants.{Both}
 use Rattle.report.specs.Reports.{kind_of, Printed}
 use Rattle.report.proofs.report.with_chooser.Goals as goal
 
-pub returns-in_ok-text-3 : goal.returns-in_ok-text-3
-returns-in_ok-text-3 g c =
+pub returns-in_ok-text-in-Both : goal.returns-in_ok-text-in-Both
+returns-in_ok-text-in-Both g c =
     let e : c.args.kind ≡ Both = search rules in
     subst (λ (k : RecordKind). Printed (kind_of k) c.args.size c.args.reader.bytes.now c.args.reader.place
-    (g.C.Chooser.meaning c.args.chooser.now) (string_bytes c.in_ok-text-3.text)) (sym e)
-    c.in_ok-text-3.ensures
+    (g.C.Chooser.meaning c.args.chooser.now) (string_bytes c.in_ok-text-in-Both.text)) (sym e)
+    c.in_ok-text-in-Both.ensures

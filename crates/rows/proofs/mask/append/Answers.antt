@@ -1,4 +1,4 @@
-use Rattle.std.proofs.Common.{◌≡◌, ℕ, ◌+◌, ◌≤◌, List, length, set, sym, refl, ap, ◌∙◌, arith}
+use Rattle.std.proofs.Common.{◌≡◌, ℕ, ◌+◌, ◌≤◌, List, length, sym, refl, ap, ◌∙◌, arith}
 use Rattle.rows.specs.Masks.{members, put}
 use Rattle.rows.proofs.Masks.{members_none, members_in, members_out, put_more, put_length}
 use Rattle.std.proofs.lemmas.List.{length_push, set_past}
