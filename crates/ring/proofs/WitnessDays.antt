@@ -11,7 +11,8 @@ use Rattle.chooser.specs.Log.{Appends}
 use Rattle.chooser.specs.Meaning.{Meaning, Sound, Appended, no_proposal, proposal_of}
 use Rattle.chooser.specs.declared.log.Log.{Log}
 use Rattle.chooser.specs.declared.log.stage.Stage.{Stage}
-use Rattle.chooser.specs.Rules.{ruled_sound, ruled_proposes}
+use Rattle.chooser.specs.Rules.{ruled_sound}
+use Rattle.chooser.proofs.Rules.{ruled_proposes}
 use Rattle.chooser.proofs.Tables.{with_one, none_there}
 use Rattle.protocol.specs.Sets.{count}
 use Rattle.rows.specs.Causes.{answer, outcome, unless}
