@@ -12,8 +12,8 @@ returns-in-Broadcast g c =
     let M : Meaning = g.C.Chooser.meaning c.args.chooser.now in
     let e : act_of c.args.entry ≡ broadcast c.in-Broadcast.node c.in-Broadcast.command c.in-Broadcast.body.now =
     search rules in
-    let f : c.is_ok.result ≡ is_ok c.broadcast.result = search rules in
-    turn_as g.R.Record.kind w _ M _ _ _ _ _ e f (broadcasts w M _ _ _ _ _ c.broadcast.ensures)
+    turn_as g.R.Record.kind w _ M _ _ _ (is_ok c.broadcast.result) _ e (search rules)
+    (broadcasts w M _ _ _ _ _ c.broadcast.ensures)
 
 pub returns-in-Receive : goal.returns-in-Receive
 returns-in-Receive g c =
@@ -21,8 +21,8 @@ returns-in-Receive g c =
     let M : Meaning = g.C.Chooser.meaning c.args.chooser.now in
     let e : act_of c.args.entry ≡ receive c.in-Receive.place =
     search rules in
-    let f : c.is_ok-in-Receive.result ≡ is_ok c.receive.result = search rules in
-    turn_as g.R.Record.kind w _ M _ _ _ _ _ e f (receives w M _ _ _ c.receive.ensures)
+    turn_as g.R.Record.kind w _ M _ _ _ (is_ok c.receive.result) _ e (search rules)
+    (receives w M _ _ _ c.receive.ensures)
 
 pub returns-in-Step : goal.returns-in-Step
 returns-in-Step g c =
@@ -30,8 +30,8 @@ returns-in-Step g c =
     let M : Meaning = g.C.Chooser.meaning c.args.chooser.now in
     let e : act_of c.args.entry ≡ step c.in-Step.node =
     search rules in
-    let f : c.is_ok-in-Step.result ≡ is_ok c.step.result = search rules in
-    turn_as g.R.Record.kind w _ M _ _ _ _ _ e f (steps w M _ _ _ _ c.step.ensures.step c.step.ensures.sound)
+    turn_as g.R.Record.kind w _ M _ _ _ (is_ok c.step.result) _ e (search rules)
+    (steps w M _ _ _ _ c.step.ensures.step c.step.ensures.sound)
 
 pub returns-in-Crash : goal.returns-in-Crash
 returns-in-Crash g c =
@@ -39,8 +39,8 @@ returns-in-Crash g c =
     let M : Meaning = g.C.Chooser.meaning c.args.chooser.now in
     let e : act_of c.args.entry ≡ crash c.in-Crash.node =
     search rules in
-    let f : c.is_ok-in-Crash.result ≡ is_ok c.crash.result = search rules in
-    turn_as g.R.Record.kind w _ M _ _ _ _ _ e f (crashes w M _ _ _ c.crash.ensures)
+    turn_as g.R.Record.kind w _ M _ _ _ (is_ok c.crash.result) _ e (search rules)
+    (crashes w M _ _ _ c.crash.ensures)
 
 pub returns-in-Lose : goal.returns-in-Lose
 returns-in-Lose g c =
@@ -48,5 +48,5 @@ returns-in-Lose g c =
     let M : Meaning = g.C.Chooser.meaning c.args.chooser.now in
     let e : act_of c.args.entry ≡ lose c.in-Lose.place =
     search rules in
-    let f : c.is_ok-in-Lose.result ≡ is_ok c.lose.result = search rules in
-    turn_as g.R.Record.kind w _ M _ _ _ _ _ e f (loses w M _ _ _ c.lose.ensures)
+    turn_as g.R.Record.kind w _ M _ _ _ (is_ok c.lose.result) _ e (search rules)
+    (loses w M _ _ _ c.lose.ensures)
