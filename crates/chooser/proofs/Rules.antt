@@ -1,5 +1,6 @@
 -- A chooser that decides by a rule within the first need proposals proposes as choosers do.
-use Rattle.std.proofs.Common.{◌≡◌, ℕ, ◌<◌, ◌≤◌, true, false, leb, List, [], ◌∷◌, ◌++◌, length, take, Some, None, Ok, Err, Result, nat_le, refl, arith, ap, ◌∙◌, ⊎_elim}
+use Rattle.std.proofs.Common.{◌≡◌, ℕ, ◌<◌, ◌≤◌, true, false, leb, List, [], ◌∷◌, ◌++◌, length, take, Some, None, Ok, Err}
+use Rattle.std.proofs.Common.{Result, nat_le, refl, arith, ap, ◌∙◌, ⊎_elim}
 use Rattle.std.proofs.lemmas.List.{take-append-le, get_or_append_left, length-append}
 use Rattle.std.proofs.lemmas.Bool.{le-leb, leb-true, cases_Bool}
 use Rattle.chooser.specs.Log.{logged, Appends}
@@ -21,7 +22,8 @@ module _ (need : ℕ) (rule : ℕ → List Proposal → ℕ) (low : 1 ≤ need) 
       let h = leb-true need (length ps) t in
       let k = within s ps h in
       let lt : rule s (take need ps) < length ps = omega arith in
-      let l : leb need (length (ps ++ (p ∷ []))) ≡ true = le-leb need (length (ps ++ (p ∷ []))) (simp length-append (omega arith)) in
+      let l : leb need (length (ps ++ (p ∷ []))) ≡ true =
+      le-leb need (length (ps ++ (p ∷ []))) (simp length-append (omega arith)) in
       let same : decided need rule s (ps ++ (p ∷ [])) ≡ decided need rule s ps =
       simp (l, t, take-append-le need ps (p ∷ []) h)
       (ap (λ (x : Proposal). Some (sets_of x)) (get_or_append_left ps (p ∷ []) no_proposal (rule s (take need ps)) lt)) in

@@ -1,5 +1,6 @@
 -- The table of stages that a log holds: its invariant, and what one more proposal makes of it.
-use Rattle.std.proofs.Common.{◌≡◌, ℕ, zero, suc, ◌+◌, ◌-◌, ◌<◌, ◌≤◌, Bool, true, false, ◌&&◌, eqb, leb, ◌≢◌, List, [], ◌∷◌, ◌++◌, length, get_or, take, set, None, sym, refl, ap, ◌∙◌, ⊎_elim, arith}
+use Rattle.std.proofs.Common.{◌≡◌, ℕ, zero, suc, ◌+◌, ◌-◌, ◌<◌, ◌≤◌, Bool, true, false, ◌&&◌, eqb, leb, ◌≢◌, List, [], ◌∷◌}
+use Rattle.std.proofs.Common.{◌++◌, length, get_or, take, set, None, sym, refl, ap, ◌∙◌, ⊎_elim, arith}
 use Rattle.std.proofs.lemmas.List.{length-take-le, length-set, get_or-set_same, get_or-set_other, take_more_set}
 use Rattle.std.proofs.lemmas.Bool.{and_parts, and_from, eqb-true, leb-true, eq-eqb, le-leb, cases_Bool, cond_both, le-ltb}
 use Rattle.chooser.specs.Meaning.{served, has_proposed, proposal_refusal, no_proposal}
@@ -27,7 +28,8 @@ sound_at [] i h e = absurd (omega arith)
 sound_at (t ∷ ts) zero h e = (and_parts (stage_sound t) (stages_sound ts) e).0
 sound_at (t ∷ ts) (suc i) h e = sound_at ts i (omega arith) (and_parts (stage_sound t) (stages_sound ts) e).1
 
-sound_set : (ts : List Stage) (i : ℕ) (t : Stage) → stages_sound ts ≡ true → stage_sound t ≡ true → stages_sound (set ts i t) ≡ true
+sound_set : (ts : List Stage) (i : ℕ) (t : Stage) → stages_sound ts ≡ true → stage_sound t ≡ true →
+    stages_sound (set ts i t) ≡ true
 sound_set [] i t e f = refl
 sound_set (u ∷ ts) zero t e f = and_from (stage_sound t) (stages_sound ts) f (and_parts (stage_sound u) (stages_sound ts) e).1
 sound_set (u ∷ ts) (suc i) t e f =
@@ -116,7 +118,8 @@ module _ (ts : List Stage) (s : ℕ) (p : Proposal) (e : table_sound ts ≡ true
       (ap arrived (get_or-set_same ts (s - 1) u no_stage (omega arith)) ∙ arrived_one (stage_at ts s) p room_here)
 
 -- no other stage changes
-pub none_there : (ts : List Stage) (s : ℕ) (t : Stage) (j : ℕ) → 1 ≤ s → (j ≡ s → ⊥) → in_table (set ts (s - 1) t) j ≡ in_table ts j
+pub none_there : (ts : List Stage) (s : ℕ) (t : Stage) (j : ℕ) → 1 ≤ s → (j ≡ s → ⊥) →
+    in_table (set ts (s - 1) t) j ≡ in_table ts j
 none_there ts s t j a ne =
     ⊎_elim
     (λ (v : served j ≡ true).
@@ -127,7 +130,8 @@ none_there ts s t j a ne =
     (cases_Bool (served j))
 
 -- nothing stands in the way of the proposal
-pub no_refusal : (ps : List Proposal) (s n : ℕ) → 1 ≤ s → s ≤ 32 → n ≤ 6 → has_proposed n ps ≡ false → proposal_refusal ps s n ≡ None
+pub no_refusal : (ps : List Proposal) (s n : ℕ) → 1 ≤ s → s ≤ 32 → n ≤ 6 → has_proposed n ps ≡ false →
+    proposal_refusal ps s n ≡ None
 no_refusal ps s n a b h e = simp (served_between s a b, le-ltb 6 n h, e)
 
 -- a table without proposals

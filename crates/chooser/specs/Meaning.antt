@@ -1,5 +1,6 @@
 -- What a chooser means, and what its calls make of that meaning.
-use Rattle.std.specs.Prelude.{◌≡◌, ℕ, ◌<◌, ◌≤◌, Bool, false, cond, ◌&&◌, ◌||◌, List, [], ◌∷◌, ◌++◌, length, Some, None, Ok, Err, Option, Result, ◌==◌, ◌≢◌, nat_le, nat_lt, slice_index_or}
+use Rattle.std.specs.Prelude.{◌≡◌, ℕ, ◌<◌, ◌≤◌, Bool, false, cond, ◌&&◌, ◌||◌, List, [], ◌∷◌, ◌++◌, length, Some, None, Ok}
+use Rattle.std.specs.Prelude.{Err, Option, Result, ◌==◌, ◌≢◌, nat_le, nat_lt, slice_index_or}
 use Rattle.chooser.specs.declared.proposal.Proposal.{Proposal}
 use Rattle.chooser.specs.declared.refusal.Refusal.{Refusal}
 use Rattle.chooser.specs.declared.refusal.Refusal.TheVariants.{NoSuchStage, NoSuchNode, ProposedBefore}

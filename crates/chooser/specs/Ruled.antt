@@ -1,5 +1,6 @@
 -- A chooser that decides by a rule over the proposals.
-use Rattle.std.specs.Prelude.{◌≡◌, ℕ, cond, ◌||◌, List, [], length, take, Some, None, Ok, Err, Option, Result, ◌==◌, nat_le, nat_lt, slice_index_or}
+use Rattle.std.specs.Prelude.{◌≡◌, ℕ, cond, ◌||◌, List, [], length, take, Some, None, Ok, Err, Option, Result, ◌==◌, nat_le}
+use Rattle.std.specs.Prelude.{nat_lt, slice_index_or}
 use Rattle.chooser.specs.Meaning.{Meaning, sets_of, no_proposal}
 use Rattle.chooser.specs.declared.proposal.Proposal.{Proposal}
 use Rattle.chooser.specs.declared.refusal.Refusal.{Refusal}

@@ -38,7 +38,8 @@ lowest_within need low s ps h =
 
 pub lowest_next : (best n i : ℕ) (ps : List Proposal) → i < length ps →
     lowest_from best n i (drop i ps) ≡ cond (nat_lt (slice_index_or ps i no_proposal).node n)
-    (lowest_from i (slice_index_or ps i no_proposal).node (i + 1) (drop (i + 1) ps)) (lowest_from best n (i + 1) (drop (i + 1) ps))
+    (lowest_from i (slice_index_or ps i no_proposal).node (i + 1) (drop (i + 1) ps))
+    (lowest_from best n (i + 1) (drop (i + 1) ps))
 lowest_next best n i ps h = at_drop_more (lowest_from best n i) ps i no_proposal h
 
 pub lowest_end : (best n i : ℕ) (ps : List Proposal) → length ps ≤ i → lowest_from best n i (drop i ps) ≡ best

@@ -1,5 +1,6 @@
 -- How the code holds the proposals: 32 stages, each an array of seven of which the first part counts.
-use Rattle.std.specs.Prelude.{ℕ, ◌-◌, Bool, true, cond, not, ◌&&◌, List, [], ◌∷◌, length, take, ◌==◌, nat_le, nat_lt, slice_index_or}
+use Rattle.std.specs.Prelude.{ℕ, ◌-◌, Bool, true, cond, not, ◌&&◌, List, [], ◌∷◌, length, take, ◌==◌, nat_le, nat_lt}
+use Rattle.std.specs.Prelude.{slice_index_or}
 use Rattle.chooser.specs.Meaning.{served, has_proposed}
 use Rattle.chooser.specs.declared.log.stage.Stage.{Stage}
 use Rattle.chooser.specs.declared.proposal.Proposal.{Proposal}

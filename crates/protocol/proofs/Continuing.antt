@@ -1,6 +1,7 @@
 -- What no call takes back: letters keep their words, decisions stand, crashed nodes stay crashed. So what the letters
 -- and the decisions of one state say, they say in every later state, and so do the parts of the invariant about a node.
-use Rattle.std.proofs.Common.{◌≡◌, ℕ, zero, suc, ◌<◌, ◌≤◌, Bool, true, false, ◌||◌, ◌⊎◌, List, sym, refl, ap, ◌∙◌, subst, ap₂, inl, inr, arith}
+use Rattle.std.proofs.Common.{◌≡◌, ℕ, zero, suc, ◌<◌, ◌≤◌, Bool, true, false, ◌||◌, ◌⊎◌, List, sym, refl, ap, ◌∙◌, subst, ap₂}
+use Rattle.std.proofs.Common.{inl, inr, arith}
 use Rattle.protocol.specs.Sets.{Set, ◌∈◌, ◌∉◌}
 use Rattle.protocol.specs.Lists.{Before}
 use Rattle.protocol.specs.Ring.{Size, State, Letter}

@@ -1,7 +1,9 @@
 -- How many numbers below n are in a set, and that quorums meet. Each law is a small table over what holds of the number n
 -- itself, and then a recursion on n.
-use Rattle.std.proofs.Common.{◌≡◌, ℕ, zero, suc, ◌+◌, ◌<◌, ◌≤◌, Bool, true, false, cond, ◌&&◌, ◌||◌, eqb, ◌⊎◌, sym, refl, ap, ◌∙◌, subst, inl, inr, arith}
-use Rattle.std.proofs.lemmas.Bool.{false≢true, true≢false, cases_lt, cases_eq, both_ways, and_parts, or_left, or_right, or_from, or_cases, eq-eqb, ne_eqb, eqb-true}
+use Rattle.std.proofs.Common.{◌≡◌, ℕ, zero, suc, ◌+◌, ◌<◌, ◌≤◌, Bool, true, false, cond, ◌&&◌, ◌||◌, eqb, ◌⊎◌, sym, refl, ap}
+use Rattle.std.proofs.Common.{◌∙◌, subst, inl, inr, arith}
+use Rattle.std.proofs.lemmas.Bool.{false≢true, true≢false, cases_lt, cases_eq, both_ways, and_parts, or_left, or_right}
+use Rattle.std.proofs.lemmas.Bool.{or_from, or_cases, eq-eqb, ne_eqb, eqb-true}
 use Rattle.protocol.specs.Sets.{Set, ◌∈◌, ◌∉◌, count, none, only, ◌∩◌, ◌∪◌}
 
 -- every number below n that is in f is in g

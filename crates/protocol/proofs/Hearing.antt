@@ -1,6 +1,7 @@
 -- A gathering node hears an acknowledgement of its stage, and delivers early what now has a quorum.
 use Rattle.std.proofs.Common.{◌≡◌, ℕ, ◌<◌, ◌≤◌, true, false, not, ◌&&◌, eqb, leb, ◌⊎◌, sym, refl, ◌∙◌, subst, inl, inr, arith}
-use Rattle.std.proofs.lemmas.Bool.{cases_Bool, both_ways, or_left, or_right, or_cases, and_from, and_parts, eqb-true, eq-eqb, leb-true, le-leb, not-true, not_from_false}
+use Rattle.std.proofs.lemmas.Bool.{cases_Bool, both_ways, or_left, or_right, or_cases, and_from, and_parts, eqb-true, eq-eqb}
+use Rattle.std.proofs.lemmas.Bool.{leb-true, le-leb, not-true, not_from_false}
 use Rattle.protocol.specs.Sets.{Set, ◌∈◌, ◌∉◌, count}
 use Rattle.protocol.specs.Lists.{Mem, Before, ascending}
 use Rattle.protocol.specs.Ring.{Size, State, Node, Letter, taken}

@@ -1,7 +1,8 @@
 -- Calls as functions on states, so that a run can be written down and its state computed. What a call asks for is one
 -- test, which a written run passes by computing.
 use Rattle.std.proofs.Common.{◌≡◌, ℕ, ◌+◌, ◌-◌, ◌<◌, ◌≤◌, Bool, true, false, cond, not, ◌&&◌, eqb, ltb, leb, refl, ap, ◌∙◌, arith}
-use Rattle.std.proofs.lemmas.Bool.{and_parts, eqb-true, eqb-false, eq-eqb, ne_eqb, ltb-true, lt-ltb, le-ltb, leb-true, not-true, cond-true, cond-false}
+use Rattle.std.proofs.lemmas.Bool.{and_parts, eqb-true, eqb-false, eq-eqb, ne_eqb, ltb-true, lt-ltb, le-ltb, leb-true}
+use Rattle.std.proofs.lemmas.Bool.{not-true, cond-true, cond-false}
 use Rattle.protocol.specs.Sets.{Set, count, none, only}
 use Rattle.protocol.specs.Ring.{Size, State, Node, Letter, data_letter, acknowledgement, check_letter, travelling, taken}
 use Rattle.protocol.specs.Setters.{with_check}

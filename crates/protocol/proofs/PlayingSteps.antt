@@ -1,6 +1,7 @@
 -- Steps, broadcasts and proposals as functions on states, as the receipts are in Playing.
 use Rattle.std.proofs.Common.{◌≡◌, ℕ, suc, ◌+◌, ◌<◌, ◌≤◌, Bool, true, false, not, ◌&&◌, eqb, ltb, leb, ◌⊎◌, refl, inl, inr, arith}
-use Rattle.std.proofs.lemmas.Bool.{and_left, cases_Bool, both_ways, and_parts, and_from, eqb-true, eq-eqb, ne_eqb, ltb-true, leb-true, not-true, cond-true, cond-false}
+use Rattle.std.proofs.lemmas.Bool.{and_left, cases_Bool, both_ways, and_parts, and_from, eqb-true, eq-eqb, ne_eqb, ltb-true}
+use Rattle.std.proofs.lemmas.Bool.{leb-true, not-true, cond-true, cond-false}
 use Rattle.protocol.specs.Sets.{Set, ◌∈◌, ◌∉◌, count, only, ◌∖◌}
 use Rattle.protocol.specs.Ring.{Size, State, Node, Letter, data_letter, acknowledgement, check_letter}
 use Rattle.protocol.specs.Setters.{with_closing, with_proposed}

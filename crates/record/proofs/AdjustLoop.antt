@@ -1,5 +1,6 @@
 -- The loop that adjusts the kept rounds: those before the index are done, the rest are still to do.
-use Rattle.std.proofs.Common.{◌≡◌, ℕ, ◌+◌, ◌<◌, ◌≤◌, true, List, ◌∷◌, ◌++◌, length, get_or, take, drop, set, ℤ, ◌+ℤ◌, sym, ap, ◌∙◌, arith}
+use Rattle.std.proofs.Common.{◌≡◌, ℕ, ◌+◌, ◌<◌, ◌≤◌, true, List, ◌∷◌, ◌++◌, length, get_or, take, drop, set, ℤ, ◌+ℤ◌, sym, ap}
+use Rattle.std.proofs.Common.{◌∙◌, arith}
 use lib.Seq.{take-set-lt}
 use Rattle.std.proofs.lemmas.List.{append_assoc, append-nil, length-take-le, take_more_set, drop-set-lt, drop_all, take_all}
 use Rattle.std.proofs.lemmas.Bool.{and_parts}

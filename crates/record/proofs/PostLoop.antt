@@ -1,7 +1,9 @@
 -- The loop that puts a round in its place: what stands before the index, and the carried round in the rest.
-use Rattle.std.proofs.Common.{◌≡◌, ℕ, ◌+◌, ◌<◌, ◌≤◌, true, false, List, [], ◌∷◌, ◌++◌, length, get_or, take, drop, set, pos, sym, ap, ◌∙◌, arith}
+use Rattle.std.proofs.Common.{◌≡◌, ℕ, ◌+◌, ◌<◌, ◌≤◌, true, false, List, [], ◌∷◌, ◌++◌, length, get_or, take, drop, set, pos}
+use Rattle.std.proofs.Common.{sym, ap, ◌∙◌, arith}
 use lib.Seq.{take-set-lt}
-use Rattle.std.proofs.lemmas.List.{append_assoc, length-take-le, take_more, take_more_set, drop_more, drop-set-lt, drop_all, take_all, take_at, get_or-take, length_push}
+use Rattle.std.proofs.lemmas.List.{append_assoc, length-take-le, take_more, take_more_set, drop_more, drop-set-lt, drop_all}
+use Rattle.std.proofs.lemmas.List.{take_all, take_at, get_or-take, length_push}
 use Rattle.record.specs.Card.{ahead, placed, posted}
 use Rattle.record.specs.declared.rounds.card.Round.{Round}
 

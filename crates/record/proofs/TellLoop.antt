@@ -1,5 +1,6 @@
 -- The loops that tell the cards: what is told so far, and what the rest will tell.
-use Rattle.std.proofs.Common.{◌≡◌, ℕ, ◌+◌, ◌-◌, ◌*◌, ◌<◌, ◌≤◌, true, List, [], ◌∷◌, ◌++◌, length, get_or, drop, replicate, sym, ap, ◌∙◌}
+use Rattle.std.proofs.Common.{◌≡◌, ℕ, ◌+◌, ◌-◌, ◌*◌, ◌<◌, ◌≤◌, true, List, [], ◌∷◌, ◌++◌, length, get_or, drop, replicate}
+use Rattle.std.proofs.Common.{sym, ap, ◌∙◌}
 use Rattle.std.proofs.lemmas.Bool.{and_parts}
 use Rattle.std.proofs.lemmas.List.{at_drop_more, at_drop_all, append_assoc, append-nil, length-take-le}
 use Rattle.record.specs.Card.{in_range, all_in_range}
@@ -27,7 +28,8 @@ told_all tell xs i v whole none h inv =
 pub range_at : (rs : List Round) (i : ℕ) → i < length rs → all_in_range (drop i rs) ≡ true →
     (in_range (get_or rs i no_round) ≡ true) × (all_in_range (drop (i + 1) rs) ≡ true)
 range_at rs i lt e =
-    and_parts (in_range (get_or rs i no_round)) (all_in_range (drop (i + 1) rs)) (sym (at_drop_more all_in_range rs i no_round lt) ∙ e)
+    and_parts (in_range (get_or rs i no_round)) (all_in_range (drop (i + 1) rs))
+    (sym (at_drop_more all_in_range rs i no_round lt) ∙ e)
 
 -- day and amount, pushed one after the other
 pub two_told : (v v1 v2 : List ℕ) (a b : ℕ) → v1 ≡ v ++ (a ∷ []) → v2 ≡ v1 ++ (b ∷ []) → v2 ≡ v ++ (a ∷ (b ∷ []))

@@ -1,5 +1,6 @@
 -- What a lawful command makes of a player's rounds is again at most twenty, in order and in range.
-use Rattle.std.specs.Prelude.{◌≡◌, ℕ, zero, suc, ◌≤◌, true, false, ◌&&◌, ◌||◌, ltb, List, [], ◌∷◌, length, take, ℤ, pos, negsuc, ◌+ℤ◌, ◌==◌, int_le, nat_eq, nat_le, nat_lt, refl}
+use Rattle.std.specs.Prelude.{◌≡◌, ℕ, zero, suc, ◌≤◌, true, false, ◌&&◌, ◌||◌, ltb, List, [], ◌∷◌, length, take, ℤ, pos}
+use Rattle.std.specs.Prelude.{negsuc, ◌+ℤ◌, ◌==◌, int_le, nat_eq, nat_le, nat_lt, refl}
 use Rattle.std.proofs.Common.{arith, ap, ⊎_elim}
 use Rattle.std.proofs.lemmas.Bool.Decides.{nat_tests}
 use Rattle.std.proofs.lemmas.Int.{ints}

@@ -1,5 +1,6 @@
 -- Kitty: common money, told as its balance.
-use Rattle.std.specs.Prelude.{ℕ, ◌+◌, ◌-◌, min, Bool, false, cond, not, ◌&&◌, ◌||◌, List, [], ◌∷◌, ℤ, pos, negsuc, ◌==◌, int_le, nat_le}
+use Rattle.std.specs.Prelude.{ℕ, ◌+◌, ◌-◌, min, Bool, false, cond, not, ◌&&◌, ◌||◌, List, [], ◌∷◌, ℤ, pos, negsuc, ◌==◌}
+use Rattle.std.specs.Prelude.{int_le, nat_le}
 use Rattle.record.specs.Kind.{Taking, Kind}
 use Rattle.record.specs.declared.command.Command.{Command}
 

@@ -1,5 +1,6 @@
 -- Rounds: eight players' kept rounds, told in 328 numbers.
-use Rattle.std.specs.Prelude.{ℕ, zero, suc, ◌+◌, ◌-◌, ◌*◌, Bool, cond, not, ◌&&◌, ◌||◌, List, [], ◌∷◌, ◌++◌, length, take, drop, replicate, ℤ, pos, negsuc, ◌-ℤ◌, ◌==◌, nat_lt, slice_index_or, slice_set}
+use Rattle.std.specs.Prelude.{ℕ, zero, suc, ◌+◌, ◌-◌, ◌*◌, Bool, cond, not, ◌&&◌, ◌||◌, List, [], ◌∷◌, ◌++◌, length, take}
+use Rattle.std.specs.Prelude.{drop, replicate, ℤ, pos, negsuc, ◌-ℤ◌, ◌==◌, nat_lt, slice_index_or, slice_set}
 use Rattle.record.specs.Card.{posted, adjusted, between, are_cards}
 use Rattle.record.specs.Coded.{Machine, coded}
 use Rattle.record.specs.Kind.{Kind}

@@ -1,10 +1,12 @@
 -- The laws of the rounds of eight players.
-use Rattle.std.specs.Prelude.{◌≡◌, ℕ, zero, suc, ◌<◌, Bool, true, false, not, ◌&&◌, ◌||◌, ◌≢◌, List, [], ◌∷◌, length, get_or, set, take, pos, negsuc, ◌==◌, nat_eq, nat_lt, slice_index_or, slice_set, refl}
+use Rattle.std.specs.Prelude.{◌≡◌, ℕ, zero, suc, ◌<◌, Bool, true, false, not, ◌&&◌, ◌||◌, ◌≢◌, List, [], ◌∷◌, length, get_or}
+use Rattle.std.specs.Prelude.{set, take, pos, negsuc, ◌==◌, nat_eq, nat_lt, slice_index_or, slice_set, refl}
 use Rattle.std.proofs.Common.{arith, ap, ◌∙◌, sym, subst, ⊎_elim}
 use Rattle.std.proofs.Math.Bool.{or_comm}
 use Rattle.std.proofs.lemmas.Bool.Decides.{nat_tests}
 use Rattle.std.proofs.lemmas.List.{length-set, get_or-set_same, get_or-set_other, set-set, set_comm}
-use Rattle.std.proofs.lemmas.Bool.{and_parts, and_from, or_parts, or_cases, cases_Bool, eqb-true, eqb-false, eq-eqb, ltb-true, true≢false}
+use Rattle.std.proofs.lemmas.Bool.{and_parts, and_from, or_parts, or_cases, cases_Bool, eqb-true, eqb-false, eq-eqb, ltb-true}
+use Rattle.std.proofs.lemmas.Bool.{true≢false}
 use Rattle.record.specs.Card.{ahead, placed, posted, between, is_card, are_cards}
 use Rattle.record.specs.Coded.{Runs}
 use Rattle.record.specs.Kind.{Laws}
@@ -32,7 +34,8 @@ cards_at [] i e = refl
 cards_at (t ∷ ts) zero e = (and_parts (is_card t) (are_cards ts) e).0
 cards_at (t ∷ ts) (suc i) e = cards_at ts i (and_parts (is_card t) (are_cards ts) e).1
 
-cards_set : (ts : List (List Round)) (i : ℕ) (t : List Round) → are_cards ts ≡ true → is_card t ≡ true → are_cards (slice_set ts i t) ≡ true
+cards_set : (ts : List (List Round)) (i : ℕ) (t : List Round) → are_cards ts ≡ true → is_card t ≡ true →
+    are_cards (slice_set ts i t) ≡ true
 cards_set [] i t e f = refl
 cards_set (u ∷ ts) zero t e f = and_from (is_card t) (are_cards ts) f (and_parts (is_card u) (are_cards ts) e).1
 cards_set (u ∷ ts) (suc i) t e f =
@@ -99,7 +102,8 @@ both_post k ts c d lt s a b =
     let xs = get_or ts c.subject [] in
     let m : card_after c (card_after d xs) ≡ card_after d (card_after c xs) =
     simp (a, b) (posted_commute k (round_of c) (round_of d) xs) in
-    subst (λ (i : ℕ). changed i (card_after d) (cards_after ts c) ≡ changed c.subject (card_after c) (changed i (card_after d) ts)) s
+    subst (λ (i : ℕ).
+    changed i (card_after d) (cards_after ts c) ≡ changed c.subject (card_after c) (changed i (card_after d) ts)) s
     (one_player ts c.subject (card_after c) (card_after d) lt m)
 
 commute : PlacingFacts → (ts : List (List Round)) (c d : Command) → rounds_machine.valid ts ≡ true → rounds_lawful c ≡ true →
@@ -138,7 +142,8 @@ rounds_runs f = record {
   holds = after_valid f;
   symmetric = λ c d. either_way (rounds_lawful c) (rounds_lawful d) _ _ (players_either_way c d);
   unlawful = λ c d e. rw e;
-  commute = λ ts c d e p q n. commute f ts c d e p q (or_parts (not (rounds_lawful c && rounds_lawful d)) (players_conflict c d) n).1;
+  commute = λ ts c d e p q n.
+      commute f ts c d e p q (or_parts (not (rounds_lawful c && rounds_lawful d)) (players_conflict c d) n).1;
 }
 
 pub rounds_laws : PlacingFacts → Laws rounds_kind

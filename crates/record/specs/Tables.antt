@@ -1,5 +1,6 @@
 -- The table of eight cards that the code holds: its invariant, and what it tells.
-use Rattle.std.specs.Prelude.{◌≡◌, ℕ, zero, suc, ◌<◌, ◌≤◌, true, false, ◌&&◌, List, [], ◌∷◌, length, set, pos, negsuc, ◌==◌, nat_le, slice_index_or, slice_set, refl}
+use Rattle.std.specs.Prelude.{◌≡◌, ℕ, zero, suc, ◌<◌, ◌≤◌, true, false, ◌&&◌, List, [], ◌∷◌, length, set, pos, negsuc, ◌==◌}
+use Rattle.std.specs.Prelude.{nat_le, slice_index_or, slice_set, refl}
 use Rattle.std.proofs.Common.{arith, ap, ◌∙◌, sym}
 use Rattle.std.proofs.lemmas.Bool.Decides.{nat_tests}
 use Rattle.std.proofs.lemmas.Int.{ints}
@@ -35,14 +36,16 @@ sound_at (t ∷ ts) (suc i) h e = sound_at ts i (omega arith) (and_parts (card_s
 pub card_at : (ts : List Card) (i : ℕ) → table_sound ts ≡ true → i < 8 → card_sound (slice_index_or ts i no_card) ≡ true
 card_at ts i e h = let k = table_parts ts e in let l = k.0 in sound_at ts i (omega arith) k.1
 
-sound_set : (ts : List Card) (i : ℕ) (u : Card) → cards_sound ts ≡ true → card_sound u ≡ true → cards_sound (slice_set ts i u) ≡ true
+sound_set : (ts : List Card) (i : ℕ) (u : Card) → cards_sound ts ≡ true → card_sound u ≡ true →
+    cards_sound (slice_set ts i u) ≡ true
 sound_set [] i u e f = refl
 sound_set (t ∷ ts) zero u e f = and_from (card_sound u) (cards_sound ts) f (and_parts (card_sound t) (cards_sound ts) e).1
 sound_set (t ∷ ts) (suc i) u e f =
     let h = and_parts (card_sound t) (cards_sound ts) e in
     and_from (card_sound t) (cards_sound (slice_set ts i u)) h.0 (sound_set ts i u h.1 f)
 
-pub table_set : (ts : List Card) (i : ℕ) (u : Card) → table_sound ts ≡ true → card_sound u ≡ true → table_sound (slice_set ts i u) ≡ true
+pub table_set : (ts : List Card) (i : ℕ) (u : Card) → table_sound ts ≡ true → card_sound u ≡ true →
+    table_sound (slice_set ts i u) ≡ true
 table_set ts i u e f =
     let k = table_parts ts e in
     and_from (length (slice_set ts i u) == 8) (cards_sound (slice_set ts i u))

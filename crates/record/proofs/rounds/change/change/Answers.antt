@@ -13,7 +13,12 @@ adjust-requires c =
     let k = sound_parts c.args.card.now c.requires.card_value in
     let f : SFits w16 c.args.command.amount = search rules in
     let v : eqb c.args.command.verb 1 ≡ false = ne_eqb c.args.command.verb 1 c.if-command-eq-POST.false in
-    (record { count_bound = k.1; rounds_len = k.0; card_value = (card_parts (kept c.args.card.now) k.2).2; by_value = simp to_z-of_z (adjusts_by c.args.command c.requires.command_value v) })
+    record {
+      count_bound = k.1;
+      rounds_len = k.0;
+      card_value = (card_parts (kept c.args.card.now) k.2).2;
+      by_value = simp to_z-of_z (adjusts_by c.args.command c.requires.command_value v);
+    }
 
 pub returns-then-command-eq-POST : goal.returns-then-command-eq-POST
 returns-then-command-eq-POST c =
@@ -24,7 +29,8 @@ returns-then-command-eq-POST c =
     let e : kept u ≡ card_after c.args.command (kept t) = rw v (simp to_z-of_z at c.post.ensures.after) in
     record {
       after = e;
-      sound = changed_sound c.args.command t u c.requires.command_value c.requires.card_value e c.post.ensures.width c.post.ensures.bound;
+      sound = changed_sound c.args.command t u c.requires.command_value c.requires.card_value e c.post.ensures.width
+          c.post.ensures.bound;
     }
 
 pub returns-else-command-eq-POST : goal.returns-else-command-eq-POST

@@ -8,7 +8,10 @@ pub change-requires : goal.change-requires
 change-requires c =
     let s = c.args.self.now in
     let p : rounds_lawful c.args.command ≡ true = search rules in
-    (record { card_value = card_at s.cards c.args.command.subject s.sound (subject_below c.args.command p); command_value = p })
+    record {
+      card_value = card_at s.cards c.args.command.subject s.sound (subject_below c.args.command p);
+      command_value = p;
+    }
 
 pub invariant_of-self : goal.invariant_of-self
 invariant_of-self c =
