@@ -65,11 +65,11 @@ module _ {z : Size} {s : State} (o : Ok z s) where
       stage.few_stages o (s.node r).stage (s.node r).received n.stage.first n.stage.settled (closing_cause n c)
       n.pending.received_known
 
-  -- there are at most 64 messages and 7 nodes
+  -- there are at most 64 messages
   pub has_the_stage : ChooserHasTheStage z s
   has_the_stage r l c = omega (arith, few_stages_closing r l c, o.book.messages_le)
 
-  -- and its node
+  -- the first stage is 1, and there are at most 7 nodes
   pub has_the_node : ChooserHasTheNode z s
   has_the_node r l c = record {
     stage_low = (o.nodes r l).stage.first;

@@ -10,17 +10,17 @@ use rows::size::RingSize;
 
 // A ring over Kitty with First-come and tables of its own: a tray of 24 letters.
 #[derive(Drop)]
-pub struct Desk {
-    pub ring: Ring,
-    pub tray: [Letter; 24],
-    pub book: [Command; 64],
-    pub sheets: [u8; 448],
-    pub chooser: FirstCome,
+pub(crate) struct Desk {
+    pub(crate) ring: Ring,
+    pub(crate) tray: [Letter; 24],
+    pub(crate) book: [Command; 64],
+    pub(crate) sheets: [u8; 448],
+    pub(crate) chooser: FirstCome,
 }
 
 // A call on a desk.
 #[derive(Clone, Copy)]
-pub enum Call {
+pub(crate) enum Call {
     Broadcast(u8, Command),
     Receive(usize),
     Step(u8),
@@ -29,7 +29,7 @@ pub enum Call {
 }
 
 // A payment, which conflicts with draws only.
-pub const PAY: Command = Command {
+pub(crate) const PAY: Command = Command {
     verb: 1,
     subject: 0,
     day: 0,
@@ -37,7 +37,7 @@ pub const PAY: Command = Command {
 };
 
 // A draw, which conflicts with every lawful command.
-pub const DRAW: Command = Command {
+pub(crate) const DRAW: Command = Command {
     verb: 2,
     subject: 0,
     day: 0,
@@ -45,7 +45,7 @@ pub const DRAW: Command = Command {
 };
 
 // A command that no kitty takes.
-pub const UNLAWFUL: Command = Command {
+pub(crate) const UNLAWFUL: Command = Command {
     verb: 9,
     subject: 0,
     day: 0,
@@ -53,7 +53,7 @@ pub const UNLAWFUL: Command = Command {
 };
 
 // An empty place of a tray.
-pub const NO_LETTER: Letter = Letter {
+pub(crate) const NO_LETTER: Letter = Letter {
     sender: 0,
     receiver: 0,
     kind: 0,
@@ -63,7 +63,7 @@ pub const NO_LETTER: Letter = Letter {
 };
 
 // The number of a refusal, and 0 for an accepted call.
-pub fn number_of<T: Drop>(answer: Result<T, Refusal>) -> u8 {
+pub(crate) fn number_of<T: Drop>(answer: Result<T, Refusal>) -> u8 {
     match answer {
         Ok(_) => 0,
         Err(refusal) => refusal.number(),
@@ -72,7 +72,7 @@ pub fn number_of<T: Drop>(answer: Result<T, Refusal>) -> u8 {
 
 impl Desk {
     // Before the first start.
-    pub fn new() -> Desk {
+    pub(crate) fn new() -> Desk {
         Desk {
             ring: Ring::new(),
             tray: [NO_LETTER; 24],
@@ -83,14 +83,14 @@ impl Desk {
     }
 
     // After the start of a ring of n nodes with quorum q.
-    pub fn started(n: u8, q: u8) -> Result<Desk, Refusal> {
+    pub(crate) fn started(n: u8, q: u8) -> Result<Desk, Refusal> {
         let size = RingSize::new(n, q)?;
         let mut desk = Desk::new();
         desk.start(size)?;
         Ok(desk)
     }
 
-    pub fn start(&mut self, size: RingSize) -> Result<(), Refusal> {
+    pub(crate) fn start(&mut self, size: RingSize) -> Result<(), Refusal> {
         self.ring.start(
             size,
             &mut self.tray,
@@ -101,7 +101,7 @@ impl Desk {
     }
 
     // Makes the call, and answers its number.
-    pub fn call(&mut self, call: Call) -> u8 {
+    pub(crate) fn call(&mut self, call: Call) -> u8 {
         match call {
             Call::Broadcast(node, command) => number_of(
                 self.ring.broadcast::<Kitty>(
@@ -136,7 +136,7 @@ impl Desk {
     }
 
     // The messages that a node delivered.
-    pub fn sheet(&self, node: u8) -> Result<&[u8], Refusal> {
+    pub(crate) fn sheet(&self, node: u8) -> Result<&[u8], Refusal> {
         self.ring.show(&self.tray, &self.book, &self.sheets, node)
     }
 }
