@@ -1,8 +1,8 @@
-ghost use Rattle.ring.specs.World.{world};
+ghost use Rattle.ring.specs.World.{world_of, StillLent};
 ghost use Rattle.ring.specs.Broadcast.{Broadcasts};
 
 use crate::ring::Ring;
-use crate::tables::check_sizes;
+use crate::tables::TablesMut;
 use record::command::Command;
 use record::record::Record;
 use rows::letter::{DATA, Letter, TRAVELLING};
@@ -17,17 +17,15 @@ impl Ring {
     // unlawful; 11 there are 64 messages; 12 fewer free places than nodes.
     pub fn broadcast<R: Record>(
         &mut self,
-        tray: &mut [Letter],
-        book: &mut [Command],
-        sheets: &mut [u8],
+        tables: &mut TablesMut<'_>,
         node: u8,
         command: Command,
     ) -> Result<u8, Refusal>
-        ensures { Broadcasts R.Record.kind
-            (world self.old tray.old book.old sheets.old) node command result
-            (world self.new tray.new book.new sheets.new) }
+        ensures lent { StillLent tables.old tables.new }
+        ensures broadcasts { Broadcasts R.Record.kind (world_of self.old tables.old) node command result
+            (world_of self.new tables.new) }
     {
-        check_sizes(tray.len(), book.len(), sheets.len())?;
+        tables.view().check_sizes()?;
         let size = self.with_live_node(node)?;
         if !R::is_lawful(command) {
             return Err(Refusal::UnlawfulCommand);
@@ -44,8 +42,8 @@ impl Ring {
             stage: 0,
             set: 1u64 << message,
         };
-        post(tray, self.used, size.n, letter)?;
-        book[message as usize] = command;
+        post(tables.tray, self.used, size.n, letter)?;
+        tables.book[message as usize] = command;
         self.broadcasters[message as usize] = node;
         self.messages = message + 1;
         self.used += size.n as usize;

@@ -1,12 +1,11 @@
 ghost use Rattle.std.specs.Prelude.{◌≡◌, ◌<◌, Some};
-ghost use Rattle.ring.specs.World.{world};
+ghost use Rattle.ring.specs.World.{world_of, StillLent};
 ghost use Rattle.ring.specs.Close.{Proposing, Settling};
 
 use crate::ring::Ring;
 use crate::step::Step;
+use crate::tables::TablesMut;
 use chooser::chooser::Chooser;
-use record::command::Command;
-use rows::letter::Letter;
 use rows::refusal::Refusal;
 use rows::size::RingSize;
 
@@ -16,18 +15,17 @@ impl Ring {
     pub(crate) fn propose<C: Chooser>(
         &mut self,
         size: RingSize,
-        tray: &mut [Letter],
-        book: &mut [Command],
-        sheets: &mut [u8],
+        tables: &mut TablesMut<'_>,
         chooser: &mut C,
         node: u8,
     ) -> Result<Step, Refusal>
         requires started { self.old.size ≡ Some size }
         requires inside { node < 7 }
-        ensures { Proposing
-            (world self.old tray.old book.old sheets.old)
+        ensures lent { StillLent tables.old tables.new }
+        ensures proposing { Proposing
+            (world_of self.old tables.old)
             (C.Chooser.meaning chooser.old) node result
-            (world self.new tray.new book.new sheets.new)
+            (world_of self.new tables.new)
             (C.Chooser.meaning chooser.new) }
     {
         let mut row = self.nodes[node as usize];
@@ -40,21 +38,20 @@ impl Ring {
     // refuses; 19 the stage is undecided.
     pub(crate) fn settle<C: Chooser>(
         &mut self,
-        tray: &mut [Letter],
-        book: &mut [Command],
-        sheets: &mut [u8],
+        tables: &mut TablesMut<'_>,
         chooser: &mut C,
         node: u8,
     ) -> Result<Step, Refusal>
         requires inside { node < 7 }
-        ensures { Settling
-            (world self.old tray.old book.old sheets.old)
+        ensures lent { StillLent tables.old tables.new }
+        ensures settling { Settling
+            (world_of self.old tables.old)
             (C.Chooser.meaning chooser.old) node result
-            (world self.new tray.new book.new sheets.new)
+            (world_of self.new tables.new)
             (C.Chooser.meaning chooser.new) }
     {
         let mut row = self.nodes[node as usize];
-        row.settle(chooser, sheets, node)?;
+        row.settle(chooser, tables.sheets, node)?;
         self.nodes[node as usize] = row;
         Ok(Step::Settled)
     }

@@ -1,9 +1,9 @@
-ghost use Rattle.ring.specs.World.{world};
+ghost use Rattle.ring.specs.World.{world_of, StillLent};
 ghost use Rattle.ring.specs.Fail.{Crashes, Loses};
 
 use crate::ring::Ring;
-use record::command::Command;
-use rows::letter::{LOST, Letter};
+use crate::tables::TablesMut;
+use rows::letter::LOST;
 use rows::refusal::Refusal;
 
 impl Ring {
@@ -19,22 +19,17 @@ impl Ring {
     // Loses a letter of a crashed sender, or to a crashed receiver. Refused: 4 a table has the wrong size; 7 never
     // started; 13 the place is not yet used or beyond the tray; 14 the letter does not travel; 15 it is spoilt; 21
     // neither its sender nor its receiver has crashed.
-    pub fn lose(
-        &mut self,
-        tray: &mut [Letter],
-        book: &mut [Command],
-        sheets: &mut [u8],
-        place: usize,
-    ) -> Result<(), Refusal>
-        ensures { Loses
-            (world self.old tray.old book.old sheets.old) place result
-            (world self.new tray.new book.new sheets.new) }
+    pub fn lose(&mut self, tables: &mut TablesMut<'_>, place: usize) -> Result<(), Refusal>
+        ensures lent { StillLent tables.old tables.new }
+        ensures loses { Loses
+            (world_of self.old tables.old) place result
+            (world_of self.new tables.new) }
     {
-        let (_, letter) = self.examine(tray, book, sheets, place)?;
+        let (_, letter) = self.examine(tables.view(), place)?;
         if !self.crashed[letter.sender as usize] && !self.crashed[letter.receiver as usize] {
             return Err(Refusal::NobodyCrashed);
         }
-        tray[place].mark = LOST;
+        tables.tray[place].mark = LOST;
         Ok(())
     }
 }

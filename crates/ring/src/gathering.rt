@@ -1,10 +1,10 @@
 ghost use Rattle.std.specs.Prelude.{◌≡◌, ◌<◌, Some};
-ghost use Rattle.ring.specs.World.{world};
+ghost use Rattle.ring.specs.World.{world_of, StillLent};
 ghost use Rattle.ring.specs.Gather.{Gathers};
 
 use crate::ring::Ring;
 use crate::step::Step;
-use record::command::Command;
+use crate::tables::TablesMut;
 use record::record::Record;
 use rows::conflict::find_conflict;
 use rows::letter::{ACKNOWLEDGEMENT, CHECK, Letter, TRAVELLING};
@@ -19,16 +19,15 @@ impl Ring {
     pub(crate) fn gather<R: Record>(
         &mut self,
         size: RingSize,
-        tray: &mut [Letter],
-        book: &mut [Command],
-        sheets: &mut [u8],
+        tables: &mut TablesMut<'_>,
         node: u8,
     ) -> Result<Step, Refusal>
         requires started { self.old.size ≡ Some size }
         requires inside { node < size.n }
-        ensures { Gathers R.Record.kind.conflicts
-            (world self.old tray.old book.old sheets.old) node result
-            (world self.new tray.new book.new sheets.new) }
+        ensures lent { StillLent tables.old tables.new }
+        ensures gathers { Gathers R.Record.kind.conflicts
+            (world_of self.old tables.old) node result
+            (world_of self.new tables.new) }
     {
         let row = self.nodes[node as usize];
         let undelivered = row.undelivered();
@@ -43,9 +42,9 @@ impl Ring {
             stage: row.stage,
             set: undelivered,
         };
-        match find_conflict::<R>(book, undelivered) {
+        match find_conflict::<R>(tables.view().book, undelivered) {
             None => {
-                post(tray, self.used, size.n, acknowledgement)?;
+                post(tables.tray, self.used, size.n, acknowledgement)?;
                 self.used += size.n as usize;
                 self.nodes[node as usize].acknowledge();
                 Ok(Step::Acknowledged)
@@ -56,7 +55,7 @@ impl Ring {
                     set: row.pending,
                     ..acknowledgement
                 };
-                post(tray, self.used, size.n, check)?;
+                post(tables.tray, self.used, size.n, check)?;
                 self.used += size.n as usize;
                 self.nodes[node as usize].close();
                 Ok(Step::Closed(a, b))

@@ -8,6 +8,7 @@ pub mod catching_up;
 pub mod closing;
 pub mod failing;
 pub mod gathering;
+mod nodes;
 pub mod questions;
 pub mod receiving;
 pub mod ring;

@@ -1,10 +1,9 @@
 ghost use Rattle.std.specs.Prelude.{◌≡◌, ◌<◌, Some};
-ghost use Rattle.ring.specs.World.{world, Examined};
+ghost use Rattle.ring.specs.World.{world_in, world_of, StillLent, Examined};
 ghost use Rattle.ring.specs.Receive.{Relays, Receives};
 
 use crate::ring::Ring;
-use crate::tables::check_sizes;
-use record::command::Command;
+use crate::tables::{Tables, TablesMut};
 use rows::letter::{DATA, Letter, TAKEN, TRAVELLING};
 use rows::refusal::Refusal;
 use rows::sending::post;
@@ -16,22 +15,17 @@ impl Ring {
     // is spoilt.
     pub(crate) fn examine(
         &self,
-        tray: &[Letter],
-        book: &[Command],
-        sheets: &[u8],
+        tables: Tables<'_>,
         place: usize,
     ) -> Result<(RingSize, Letter), Refusal>
-        ensures { Examined
-            (world self.now tray.now book.now sheets.now) place result }
+        ensures { Examined (world_in self.now tables.entry) place result }
     {
-        check_sizes(tray.len(), book.len(), sheets.len())?;
-        let Some(size) = self.size else {
-            return Err(Refusal::NotStarted);
-        };
-        if place >= self.used || place >= tray.len() {
+        tables.check_sizes()?;
+        let size = self.size.ok_or(Refusal::NotStarted)?;
+        if place >= self.used || place >= tables.tray.len() {
             return Err(Refusal::PlaceUnused);
         }
-        let letter = tray[place];
+        let letter = tables.tray[place];
         if letter.mark != TRAVELLING {
             return Err(Refusal::NotTravelling);
         }
@@ -67,18 +61,13 @@ impl Ring {
     // Receives the letter at a place: its receiver takes it, and relays a message that is new to it and that it did not
     // broadcast. Refused: 4; 7; 13; 14; 15; 9 the receiver has crashed; 16 the letter's stage is later than the
     // receiver's; 12 it must relay and there are fewer free places than nodes.
-    pub fn receive(
-        &mut self,
-        tray: &mut [Letter],
-        book: &mut [Command],
-        sheets: &mut [u8],
-        place: usize,
-    ) -> Result<(), Refusal>
-        ensures { Receives
-            (world self.old tray.old book.old sheets.old) place result
-            (world self.new tray.new book.new sheets.new) }
+    pub fn receive(&mut self, tables: &mut TablesMut<'_>, place: usize) -> Result<(), Refusal>
+        ensures lent { StillLent tables.old tables.new }
+        ensures receives { Receives
+            (world_of self.old tables.old) place result
+            (world_of self.new tables.new) }
     {
-        let (size, letter) = self.examine(tray, book, sheets, place)?;
+        let (size, letter) = self.examine(tables.view(), place)?;
         let receiver = letter.receiver as usize;
         if self.crashed[receiver] {
             return Err(Refusal::NodeCrashed);
@@ -86,12 +75,12 @@ impl Ring {
         if letter.stage > self.nodes[receiver].stage {
             return Err(Refusal::LaterStage);
         }
-        self.relay(size, tray, letter)?;
-        tray[place] = Letter {
+        self.relay(size, tables.tray, letter)?;
+        tables.tray[place] = Letter {
             mark: TAKEN,
             ..letter
         };
-        self.nodes[receiver].take(size, letter, sheets, letter.receiver);
+        self.nodes[receiver].take(size, letter, tables.sheets, letter.receiver);
         Ok(())
     }
 }

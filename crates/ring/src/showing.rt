@@ -1,12 +1,10 @@
 ghost use Rattle.std.specs.Prelude.{◌≡◌, ◌*◌, ◌<◌, length, take, drop, count_ones};
 ghost use Rattle.rows.specs.Rows.{on_sheet};
-ghost use Rattle.ring.specs.World.{world};
+ghost use Rattle.ring.specs.World.{world_in};
 ghost use Rattle.ring.specs.Show.{Shows};
 
 use crate::ring::Ring;
-use crate::tables::check_sizes;
-use record::command::Command;
-use rows::letter::Letter;
+use crate::tables::Tables;
 use rows::refusal::Refusal;
 use rows::row::Row;
 
@@ -23,18 +21,12 @@ fn used_part<'a>(row: &Row, sheets: &'a [u8], node: u8) -> &'a [u8]
 impl Ring {
     // The numbers of the messages that a node delivered, in order: that part of the sheets itself. Refused: 4 a table
     // has the wrong size; 7 never started; 8 no such node.
-    pub fn show<'a>(
-        &self,
-        tray: &[Letter],
-        book: &[Command],
-        sheets: &'a [u8],
-        node: u8,
-    ) -> Result<&'a [u8], Refusal>
+    pub fn show<'a>(&self, tables: Tables<'a>, node: u8) -> Result<&'a [u8], Refusal>
         ensures { Shows (λ s. s.now)
-            (world self.now tray.now book.now sheets.now) node result }
+            (world_in self.now tables.entry) node result }
     {
-        check_sizes(tray.len(), book.len(), sheets.len())?;
+        tables.check_sizes()?;
         self.with_node(node)?;
-        Ok(used_part(&self.nodes[node as usize], sheets, node))
+        Ok(used_part(&self.nodes[node as usize], tables.sheets, node))
     }
 }

@@ -1,10 +1,10 @@
 ghost use Rattle.std.specs.Prelude.{◌≡◌, ◌≤◌, not, length, replicate, ◌==◌};
-ghost use Rattle.ring.specs.World.{world};
+ghost use Rattle.ring.specs.World.{world_of, StillLent};
 ghost use Rattle.ring.specs.Start.{in_use, Starts};
 ghost use Rattle.ring.specs.Theorem.{EveryDayKeeps};
 
 use crate::ring::Ring;
-use crate::tables::check_sizes;
+use crate::tables::TablesMut;
 use chooser::chooser::Chooser;
 use record::command::Command;
 use rows::letter::{EMPTY, Letter};
@@ -51,20 +51,19 @@ impl Ring {
     pub fn start<C: Chooser>(
         &mut self,
         size: RingSize,
-        tray: &mut [Letter],
-        book: &mut [Command],
-        sheets: &mut [u8],
+        tables: &mut TablesMut<'_>,
         chooser: &C,
     ) -> Result<(), Refusal>
+        ensures lent { StillLent tables.old tables.new }
         ensures start { Starts size
-            (world self.old tray.old book.old sheets.old)
+            (world_of self.old tables.old)
             (C.Chooser.meaning chooser.now) result
-            (world self.new tray.new book.new sheets.new) }
+            (world_of self.new tables.new) }
         ensures days { EveryDayKeeps size result
-            (world self.new tray.new book.new sheets.new)
+            (world_of self.new tables.new)
             (C.Chooser.meaning chooser.now) }
     {
-        check_sizes(tray.len(), book.len(), sheets.len())?;
+        tables.view().check_sizes()?;
         if chooser.need() > size.q {
             return Err(Refusal::NeedAboveQuorum);
         }
@@ -72,7 +71,7 @@ impl Ring {
             return Err(Refusal::ChooserInUse);
         }
         clear(
-            tray,
+            tables.tray,
             Letter {
                 sender: 0,
                 receiver: 0,
@@ -83,7 +82,7 @@ impl Ring {
             },
         );
         clear(
-            book,
+            tables.book,
             Command {
                 verb: 0,
                 subject: 0,
@@ -91,7 +90,7 @@ impl Ring {
                 amount: 0,
             },
         );
-        clear(sheets, 0);
+        clear(tables.sheets, 0);
         *self = Ring::of_size(size);
         Ok(())
     }

@@ -1,15 +1,13 @@
 ghost use Rattle.std.specs.Prelude.{◌≡◌};
 ghost use Rattle.chooser.specs.Meaning.{Sound};
-ghost use Rattle.ring.specs.World.{world};
+ghost use Rattle.ring.specs.World.{world_of, StillLent};
 ghost use Rattle.ring.specs.Step.{Steps};
 
 use crate::ring::Ring;
 use crate::step::Step;
-use crate::tables::check_sizes;
+use crate::tables::TablesMut;
 use chooser::chooser::Chooser;
-use record::command::Command;
 use record::record::Record;
-use rows::letter::Letter;
 use rows::refusal::Refusal;
 use rows::row::Phase;
 
@@ -20,27 +18,26 @@ impl Ring {
     // nodes; closing, 18 fewer checks than q, 20 the chooser refuses; having proposed, 20, 19 undecided.
     pub fn step<R: Record, C: Chooser>(
         &mut self,
-        tray: &mut [Letter],
-        book: &mut [Command],
-        sheets: &mut [u8],
+        tables: &mut TablesMut<'_>,
         chooser: &mut C,
         node: u8,
     ) -> Result<Step, Refusal>
+        ensures lent { StillLent tables.old tables.new }
         ensures sound { Sound (C.Chooser.meaning chooser.new) }
         ensures step { Steps R.Record.kind
-            (world self.old tray.old book.old sheets.old)
+            (world_of self.old tables.old)
             (C.Chooser.meaning chooser.old) node result
-            (world self.new tray.new book.new sheets.new)
+            (world_of self.new tables.new)
             (C.Chooser.meaning chooser.new) }
     {
-        check_sizes(tray.len(), book.len(), sheets.len())?;
+        tables.view().check_sizes()?;
         let size = self.with_live_node(node)?;
         let phase = self.nodes[node as usize].phase;
         let proposed = self.nodes[node as usize].proposed;
         match (phase, proposed) {
-            (Phase::Gathering, _) => self.gather::<R>(size, tray, book, sheets, node),
-            (Phase::Closing, false) => self.propose(size, tray, book, sheets, chooser, node),
-            (Phase::Closing, true) => self.settle(tray, book, sheets, chooser, node),
+            (Phase::Gathering, _) => self.gather::<R>(size, tables, node),
+            (Phase::Closing, false) => self.propose(size, tables, chooser, node),
+            (Phase::Closing, true) => self.settle(tables, chooser, node),
         }
     }
 }

@@ -1,8 +1,9 @@
-ghost use Rattle.ring.specs.World.{Fits, Named, Alive};
+ghost use Rattle.std.specs.Prelude.{◌≡◌, length};
+ghost use Rattle.ring.specs.World.{Fits};
 
-use crate::ring::Ring;
+use record::command::Command;
+use rows::letter::Letter;
 use rows::refusal::Refusal;
-use rows::size::RingSize;
 
 const MOST_LETTERS: usize = 4096;
 
@@ -10,39 +11,48 @@ const COMMANDS: usize = 64;
 
 const SHEETS: usize = 448;
 
-// Whether tables of these lengths may be lent: 1 to 4,096 letters, 64 commands, 448 bytes of sheets. Refused: 4 one
-// has the wrong size.
-pub(crate) fn check_sizes(tray: usize, book: usize, sheets: usize) -> Result<(), Refusal>
-    ensures { Fits tray book sheets result }
-{
-    if tray == 0 || tray > MOST_LETTERS || book != COMMANDS || sheets != SHEETS {
-        return Err(Refusal::WrongTableSize);
-    }
-    Ok(())
+// The tables that a caller lends to a call of a ring, to be read: the tray of all letters ever sent, the book of the
+// commands of all messages, and the sheets of the nodes. Their sizes are the caller's, and each call looks at them.
+#[derive(Clone, Copy)]
+pub struct Tables<'a> {
+    pub tray: &'a [Letter],
+    pub book: &'a [Command],
+    pub sheets: &'a [u8],
 }
 
-impl Ring {
-    // The size of the ring, if it has this node. Refused: 7 the ring was never started; 8 there is no such node.
-    pub(crate) fn with_node(&self, node: u8) -> Result<RingSize, Refusal>
-        ensures { Named self.now node result }
-    {
-        let Some(size) = self.size else {
-            return Err(Refusal::NotStarted);
-        };
-        if node >= size.n {
-            return Err(Refusal::NoSuchNode);
-        }
-        Ok(size)
-    }
+// The same tables, lent to be written.
+#[derive(Drop)]
+pub struct TablesMut<'a> {
+    pub tray: &'a mut [Letter],
+    pub book: &'a mut [Command],
+    pub sheets: &'a mut [u8],
+}
 
-    // The same for a node that lives. Refused: 7; 8; 9 that node has crashed.
-    pub(crate) fn with_live_node(&self, node: u8) -> Result<RingSize, Refusal>
-        ensures { Alive self.now node result }
+impl Tables<'_> {
+    // Whether tables of these sizes may be lent: 1 to 4,096 letters, 64 commands, 448 bytes of sheets. Refused: 4 one
+    // has the wrong size.
+    pub(crate) fn check_sizes(self) -> Result<(), Refusal>
+        ensures { Fits (length self.entry.tray.now) (length self.entry.book.now) (length self.entry.sheets.now) result }
     {
-        let size = self.with_node(node)?;
-        if self.crashed[node as usize] {
-            return Err(Refusal::NodeCrashed);
+        let (tray, book, sheets) = (self.tray.len(), self.book.len(), self.sheets.len());
+        if tray == 0 || tray > MOST_LETTERS || book != COMMANDS || sheets != SHEETS {
+            return Err(Refusal::WrongTableSize);
         }
-        Ok(size)
+        Ok(())
+    }
+}
+
+impl TablesMut<'_> {
+    // These tables, to be read.
+    pub fn view(&self) -> Tables<'_>
+        ensures tray { result.tray.now ≡ self.now.tray.now }
+        ensures book { result.book.now ≡ self.now.book.now }
+        ensures sheets { result.sheets.now ≡ self.now.sheets.now }
+    {
+        Tables {
+            tray: self.tray,
+            book: self.book,
+            sheets: self.sheets,
+        }
     }
 }

@@ -2,44 +2,37 @@ use Rattle.std.proofs.Common.{◌≡◌, true, false, Some, None, Err, refl, rul
 use Rattle.rows.specs.declared.refusal.Refusal.{Refusal}
 use Rattle.chooser.specs.Meaning.{Meaning}
 use Rattle.rows.specs.declared.row.Phase.TheVariants.{Closing}
-use Rattle.ring.specs.World.{World, world, row_of}
+use Rattle.ring.specs.World.{World, world_of, row_of}
 use Rattle.ring.specs.Step.{stepper_refusal}
 use Rattle.ring.proofs.StepWays.{step_refused, proposing_steps, settling_steps}
 use Rattle.ring.proofs.ring.Ring.step.Goals as goal
 
-pub returns-in_err-size : goal.returns-in_err-size
-returns-in_err-size g c =
-    let w : World = world c.args.self.now c.args.tray.now c.args.book.now c.args.sheets.now in
+pub returns-in_err-size-clause-step : goal.returns-in_err-size-clause-step
+returns-in_err-size-clause-step g c =
+    let w : World = world_of c.args.self.now c.args.tables.now in
     let M : Meaning = g.C.Chooser.meaning c.args.chooser.now in
     let e : Refusal = c.in_err-size.field-0.0 in
     let cause : stepper_refusal w c.args.node ≡ Some e = search rules in
     let answered : c.from_residual-in_err-size.result ≡ Err e = search rules in
-    record {
-      sound = g.met.C.Chooser.sound c.args.chooser.now;
-      step = step_refused g.R.Record.kind w M c.args.node c.from_residual-in_err-size.result w M e cause answered
-          refl refl;
-    }
+    step_refused g.R.Record.kind w M c.args.node c.from_residual-in_err-size.result w M e cause answered refl refl
 
-pub returns-in-Closing-true : goal.returns-in-Closing-true
-returns-in-Closing-true g c =
-    let w : World = world c.args.self.now c.args.tray.now c.args.book.now c.args.sheets.now in
+pub returns-in-Closing-true-clause-sound : goal.returns-in-Closing-true-clause-sound
+returns-in-Closing-true-clause-sound g c = g.met.C.Chooser.sound c.settle.new.chooser
+
+pub returns-in-Closing-true-clause-step : goal.returns-in-Closing-true-clause-step
+returns-in-Closing-true-clause-step g c =
+    let w : World = world_of c.args.self.now c.args.tables.now in
     let M : Meaning = g.C.Chooser.meaning c.args.chooser.now in
     let e : stepper_refusal w c.args.node ≡ None = search rules in
     let p : (row_of w c.args.node).phase ≡ Closing = search rules in
     let q : (row_of w c.args.node).proposed ≡ true = search rules in
-    record {
-      sound = g.met.C.Chooser.sound c.settle.new.chooser;
-      step = settling_steps g.R.Record.kind w M c.args.node c.settle.result _ _ e p q c.settle.ensures;
-    }
+    settling_steps g.R.Record.kind w M c.args.node c.settle.result _ _ e p q c.settle.ensures.settling
 
-pub returns-in-Closing-false : goal.returns-in-Closing-false
-returns-in-Closing-false g c =
-    let w : World = world c.args.self.now c.args.tray.now c.args.book.now c.args.sheets.now in
+pub returns-in-Closing-false-clause-step : goal.returns-in-Closing-false-clause-step
+returns-in-Closing-false-clause-step g c =
+    let w : World = world_of c.args.self.now c.args.tables.now in
     let M : Meaning = g.C.Chooser.meaning c.args.chooser.now in
     let e : stepper_refusal w c.args.node ≡ None = search rules in
     let p : (row_of w c.args.node).phase ≡ Closing = search rules in
     let q : (row_of w c.args.node).proposed ≡ false = search rules in
-    record {
-      sound = g.met.C.Chooser.sound c.propose.new.chooser;
-      step = proposing_steps g.R.Record.kind w M c.args.node c.propose.result _ _ e p q c.propose.ensures;
-    }
+    proposing_steps g.R.Record.kind w M c.args.node c.propose.result _ _ e p q c.propose.ensures.proposing
