@@ -13,7 +13,6 @@ pub mod GatherJoined
 pub mod HeardEntries
 pub mod HearingJoined
 pub mod HistoryTold
-pub mod InUse
 pub mod KeptCount
 pub mod Membership
 pub mod Plays

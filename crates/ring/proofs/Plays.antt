@@ -1,5 +1,5 @@
 -- One entry more of a sheet that is judged or played.
-use Rattle.std.proofs.Common.{◌≡◌, ℕ, ◌+◌, ◌<◌, ◌≤◌, Bool, true, false, not, ◌&&◌, ltb, List, length, get_or, drop, Some, None}
+use Rattle.std.proofs.Common.{◌≡◌, ℕ, ◌+◌, ◌<◌, ◌≤◌, Bool, true, not, ◌&&◌, ltb, List, length, get_or, drop, Some, None}
 use Rattle.std.proofs.Common.{Ok, Err, Option, Result, sym, ap, ◌∙◌, subst}
 use Rattle.std.proofs.lemmas.List.{at_drop_more, at_drop_all}
 use Rattle.std.proofs.lemmas.Bool.{and_parts, both_ways, le-ltb}
@@ -20,10 +20,6 @@ module _ (K : Kind) (book : List Command) (messages : ℕ) (es : List ℕ) (i : 
       ≡ (playable K book messages (get_or es i 0) && all_playable K book messages (drop (i + 1) es))
   judged_next h = at_drop_more (all_playable K book messages) es i 0 h
 
-  -- no entries are playable
-  pub judged_end : length es ≤ i → all_playable K book messages (drop i es) ≡ true
-  judged_end h = at_drop_all (all_playable K book messages) es i h
-
   -- an entry of a playable sheet is lawful, and the others are playable
   pub lawful_here : i < length es → all_playable K book messages (drop i es) ≡ true →
       (K.taking.lawful (command_of book (get_or es i 0)) ≡ true) × (all_playable K book messages (drop (i + 1) es) ≡ true)
@@ -43,16 +39,6 @@ module _ (K : Kind) (book : List Command) (messages : ℕ) (es : List ℕ) (i : 
   -- with no more entries the list is what is told
   pub played_end : (l : List ℕ) → length es ≤ i → played K book l (drop i es) ≡ l
   played_end l h = at_drop_all (played K book l) es i h
-
-  -- an entry that is not playable, past others that were
-  pub judged_bad : (t : Bool) → i < length es → all_playable K book messages (drop i es) ≡ t →
-      playable K book messages (get_or es i 0) ≡ false → false ≡ t
-  judged_bad t h e b = sym (rw b at (judged_next h)) ∙ e
-
-  -- an entry that is playable leaves the judgement to the others
-  pub judged_good : (t : Bool) → i < length es → all_playable K book messages (drop i es) ≡ t →
-      playable K book messages (get_or es i 0) ≡ true → all_playable K book messages (drop (i + 1) es) ≡ t
-  judged_good t h e b = sym (rw b at (judged_next h)) ∙ e
 
 module _ (K : Kind) (w : World) (node mark : ℕ) (s : List ℕ) (e : s ≡ sheet_of w node) where
   -- the causes of a catching up, once the sheet is shown and the mark is on it

@@ -1,9 +1,12 @@
 -- An accepted start joins the world to a start of the protocol.
-use Rattle.std.proofs.Common.{◌≡◌, ℕ, zero, suc, ◌*◌, ◌<◌, ◌≤◌, false, not, eqb, ltb, leb, List, [], length, get_or, take, drop}
+use Rattle.std.proofs.Common.{◌≡◌, ℕ, ◌-◌, ◌*◌, ◌<◌, ◌≤◌, false, not, ltb, leb, List, [], length, get_or, take, drop}
 use Rattle.std.proofs.Common.{replicate, None, Option, sym, refl, ap, ◌∙◌, subst, ap₂, inl, inr, arith}
 use lib.Count.{ones, ones-ones}
 use Rattle.std.proofs.lemmas.List.{length-replicate, get_or-replicate, nil_from_length}
-use Rattle.std.proofs.lemmas.Bool.{cases_Bool, cases_eq, and_parts, eqb-true, leb-true, ltb-false, not-false, or_parts}
+use Rattle.std.proofs.lemmas.List.Folds.{list_any_at}
+use Rattle.std.proofs.lemmas.List.FromFn.{length-range_with_len, get_or-range_with_len}
+use Rattle.std.specs.List.{range_with_len}
+use Rattle.std.proofs.lemmas.Bool.{cases_Bool, and_parts, eqb-true, leb-true, ltb-false, not-false, both_ways}
 use Rattle.record.specs.Kind.{Kind, Laws}
 use Rattle.chooser.specs.Meaning.{Meaning, Sound, served, has_proposed}
 use Rattle.chooser.specs.declared.proposal.Proposal.{Proposal}
@@ -17,7 +20,7 @@ use Rattle.rows.specs.Rows.{no_row, new_row}
 use Rattle.rows.specs.declared.row.Row.{Row}
 use Rattle.rows.specs.declared.size.RingSize.{RingSize}
 use Rattle.ring.specs.World.{World, wrong_sizes, table_refusal}
-use Rattle.ring.specs.Start.{in_use, start_refusal, started}
+use Rattle.ring.specs.Start.{is_used, in_use, start_refusal, started}
 use Rattle.ring.proofs.BlankRows.{same_everywhere, begins_fine, beginning, begins_seen}
 use Rattle.ring.proofs.BroadcastJoined.{conflict_both_sides, conflict_not_itself}
 use Rattle.ring.proofs.Causes.{refuse_none, first_none, tables_fit}
@@ -41,12 +44,15 @@ row_is_new z r l = get_or-replicate 7 r new_row no_row (omega (arith, l, z.high)
 -- where none of the stages 1 to k is in use, none of them has a proposal
 unused : (M : Meaning) (k j : ℕ) → in_use M k ≡ false → 1 ≤ j → j ≤ k → M.proposals j ≡ []
 unfolding in_use
-unused M zero j h low high = absurd (omega (arith, low, high))
-unused M (suc k) j h low high =
-    let p = or_parts (in_use M k) (not (eqb (length (M.proposals (suc k))) 0)) h in
-    elim (cases_eq j (suc k)) [
-      | inl e ↦ ap M.proposals e ∙ nil_from_length (M.proposals (suc k)) (eqb-true _ _ (not-false _ p.1))
-      | inr d ↦ unused M k j p.0 low (omega (arith, high, d))
+unused M k j h low high =
+    let i : ℕ = j - 1 in
+    let here : get_or (range_with_len 1 k) i 0 ≡ j =
+    get_or-range_with_len 1 k i 0 (omega (arith, low, high)) ∙ omega (arith, low) in
+    let l : i < length (range_with_len 1 k) = omega (arith, low, high, length-range_with_len 1 k) in
+    elim (cases_Bool (is_used M j)) [
+      | inl t ↦ absurd (both_ways _ h
+          (list_any_at (is_used M) (range_with_len 1 k) i 0 l (ap (is_used M) here ∙ t)))
+      | inr t ↦ nil_from_length (M.proposals j) (eqb-true _ _ (not-false _ t))
     ]
 
 module _ (z : RingSize) (w : World) (M : Meaning) (h : start_refusal z w M ≡ None) where

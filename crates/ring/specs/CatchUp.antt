@@ -1,5 +1,6 @@
 -- Playing a sheet into a record.
-use Rattle.std.specs.Prelude.{◌≡◌, ℕ, Bool, true, not, ◌&&◌, List, [], ◌∷◌, length, drop, None, Option, Result, nat_lt}
+use Rattle.std.specs.Prelude.{◌≡◌, ℕ, Bool, not, ◌&&◌, List, [], ◌∷◌, length, drop, None, Option, Result, nat_lt}
+use Rattle.std.specs.List.{list_all}
 use Rattle.record.specs.Kind.{Kind}
 use Rattle.record.specs.declared.command.Command.{Command}
 use Rattle.rows.specs.Causes.{refuse, first, answer, unless}
@@ -15,8 +16,7 @@ playable K book messages m = nat_lt m messages && K.taking.lawful (command_of bo
 
 -- all entries do
 abbrev pub all_playable : Kind → List Command → ℕ → List ℕ → Bool
-all_playable K book messages [] = true
-all_playable K book messages (m ∷ ms) = playable K book messages m && all_playable K book messages ms
+all_playable K book messages ms = list_all (playable K book messages) ms
 
 -- the list that the commands of the entries make of a list, one after the other
 abbrev pub played : Kind → List Command → List ℕ → List ℕ → List ℕ

@@ -1,6 +1,7 @@
 -- Rings before and at their start, and what a start makes of a world.
-use Rattle.std.specs.Prelude.{◌≡◌, ℕ, zero, suc, Bool, false, not, ◌||◌, length, replicate, Some, None, Option, Result, ◌==◌}
+use Rattle.std.specs.Prelude.{◌≡◌, ℕ, Bool, false, not, length, replicate, Some, None, Option, Result, ◌==◌}
 use Rattle.std.specs.Prelude.{nat_lt}
+use Rattle.std.specs.List.{list_any, range_with_len}
 use Rattle.chooser.specs.Meaning.{Meaning}
 use Rattle.rows.specs.Causes.{refuse, first, outcome, unless}
 use Rattle.rows.specs.Conflicts.{no_command}
@@ -31,10 +32,13 @@ idle_ring = empty_ring None
 abbrev pub new_ring : RingSize → Ring
 new_ring z = empty_ring (Some z)
 
--- whether one of the stages 1 to k has a proposal
+-- whether the stage has a proposal
+abbrev pub is_used : Meaning → ℕ → Bool
+is_used M s = not (length (M.proposals s) == 0)
+
+-- whether one of the stages 1 to k has one
 unfoldable pub in_use : Meaning → ℕ → Bool
-in_use M zero = false
-in_use M (suc k) = in_use M k || not (length (M.proposals (suc k)) == 0)
+in_use M k = list_any (is_used M) (range_with_len 1 k)
 
 -- 4, 5, 6
 abbrev pub start_refusal : RingSize → World → Meaning → Option Refusal

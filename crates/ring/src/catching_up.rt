@@ -13,12 +13,7 @@ use rows::refusal::Refusal;
 fn is_playable<R: Record>(book: &[Command], messages: u8, entries: &[u8]) -> bool
     ensures { result ≡ all_playable R.Record.kind book.now messages entries.now }
 {
-    for entry in entries {
-        if *entry >= messages || !R::is_lawful(command_of(book, *entry)) {
-            return false;
-        }
-    }
-    true
+    entries.iter().all(|entry| *entry < messages && R::is_lawful(command_of(book, *entry)))
 }
 
 // Gives the record the commands that the entries name, in their order.

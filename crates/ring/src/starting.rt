@@ -1,6 +1,6 @@
 ghost use Rattle.std.specs.Prelude.{◌≡◌, ◌≤◌, not, length, replicate, ◌==◌};
 ghost use Rattle.ring.specs.World.{world_of, StillLent};
-ghost use Rattle.ring.specs.Start.{in_use, Starts};
+ghost use Rattle.ring.specs.Start.{is_used, in_use, Starts};
 ghost use Rattle.ring.specs.Theorem.{EveryDayKeeps};
 
 use crate::ring::Ring;
@@ -11,37 +11,20 @@ use rows::letter::{EMPTY, Letter};
 use rows::refusal::Refusal;
 use rows::size::RingSize;
 
-// Writes one value all over a table.
-fn clear<T: Copy>(table: &mut [T], blank: T)
-    ensures { table.new ≡ replicate (length table.old) blank }
-{
-    for x in table.iter_mut() {
-        *x = blank;
-    }
-}
+const STAGES: u32 = 32;
 
 // Whether the stage has a proposal.
 fn has_proposal<C: Chooser>(chooser: &C, stage: u32) -> bool
-    requires { (1 ≤ stage) × (stage ≤ 32) }
-    ensures { result ≡ not (length ((C.Chooser.meaning chooser.now).proposals stage) == 0) }
+    ensures { result ≡ is_used (C.Chooser.meaning chooser.now) stage }
 {
-    match chooser.count(stage) {
-        Ok(count) => count != 0,
-        Err(_) => false,
-    }
+    chooser.count(stage).is_ok_and(|count| count != 0)
 }
 
 // Whether any of the chooser's stages has a proposal.
 fn is_in_use<C: Chooser>(chooser: &C) -> bool
     ensures { result ≡ in_use (C.Chooser.meaning chooser.now) 32 }
 {
-    let mut found = false;
-    for i in 0..32u32 {
-        if has_proposal(chooser, i + 1) {
-            found = true;
-        }
-    }
-    found
+    (1..STAGES + 1).any(|stage| has_proposal(chooser, stage))
 }
 
 impl Ring {
@@ -70,27 +53,21 @@ impl Ring {
         if is_in_use(chooser) {
             return Err(Refusal::ChooserInUse);
         }
-        clear(
-            tables.tray,
-            Letter {
-                sender: 0,
-                receiver: 0,
-                kind: 0,
-                mark: EMPTY,
-                stage: 0,
-                set: 0,
-            },
-        );
-        clear(
-            tables.book,
-            Command {
-                verb: 0,
-                subject: 0,
-                day: 0,
-                amount: 0,
-            },
-        );
-        clear(tables.sheets, 0);
+        tables.tray.fill(Letter {
+            sender: 0,
+            receiver: 0,
+            kind: 0,
+            mark: EMPTY,
+            stage: 0,
+            set: 0,
+        });
+        tables.book.fill(Command {
+            verb: 0,
+            subject: 0,
+            day: 0,
+            amount: 0,
+        });
+        tables.sheets.fill(0);
         *self = Ring::of_size(size);
         Ok(())
     }

@@ -8,7 +8,7 @@ use Rattle.ring.proofs.ring.Ring.start.Goals as goal
 pub returns-clause-days : goal.returns-clause-days
 returns-clause-days g c =
     let u : World = world_of c.args.self.now c.args.tables.now in
-    let v : World = world c.of_size.result c.clear.new.table c.clear-2.new.table c.clear-3.new.table in
+    let v : World = world c.of_size.result c.fill.new.self c.fill-2.new.self c.fill-3.new.self in
     let M : Meaning = g.C.Chooser.meaning c.args.chooser.now in
     let s : Starts c.args.size u M (Ok tt) v = search rules in
     every_day_keeps c.args.size u v M (Ok tt) (g.met.C.Chooser.sound c.args.chooser.now) s
