@@ -1,13 +1,12 @@
-ghost use Rattle.ring.specs.World.{world};
+ghost use Rattle.ring.specs.World.{world_of, StillLent};
 ghost use Rattle.replay.specs.WholeDay.{Days};
 
 use crate::run::run;
 use crate::tally::Tally;
 use chooser::chooser::Chooser;
-use record::command::Command;
 use record::record::Record;
 use ring::ring::Ring;
-use rows::letter::Letter;
+use ring::tables::TablesMut;
 use rows::refusal::Refusal;
 use rows::size::RingSize;
 use schedule::reader::Reader;
@@ -19,17 +18,16 @@ pub fn run_day<R: Record, C: Chooser>(
     size: RingSize,
     reader: Reader<'_>,
     ring: &mut Ring,
-    tray: &mut [Letter],
-    book: &mut [Command],
-    sheets: &mut [u8],
+    tables: &mut TablesMut<'_>,
     chooser: &mut C,
 ) -> Result<Tally, Refusal>
-    ensures { Days R.Record.kind size reader.entry.bytes.now reader.entry.place
-        (world ring.old tray.old book.old sheets.old)
+    ensures lent { StillLent tables.old tables.new }
+    ensures days { Days R.Record.kind size reader.entry.bytes.now reader.entry.place
+        (world_of ring.old tables.old)
         (C.Chooser.meaning chooser.old) result
-        (world ring.new tray.new book.new sheets.new)
+        (world_of ring.new tables.new)
         (C.Chooser.meaning chooser.new) }
 {
-    ring.start(size, tray, book, sheets, chooser)?;
-    Ok(run::<R, C>(reader, ring, tray, book, sheets, chooser))
+    ring.start(size, tables, chooser)?;
+    Ok(run::<R, C>(reader, ring, tables, chooser))
 }

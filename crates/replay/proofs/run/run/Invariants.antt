@@ -1,5 +1,5 @@
 use Rattle.std.proofs.Common.{◌≡◌, ◌+◌, ◌-◌, ◌≤◌, length}
-use Rattle.ring.specs.World.{world}
+use Rattle.ring.specs.World.{world_of, StillLent}
 use Rattle.replay.specs.Runs.{Walk}
 use Rattle.replay.proofs.run.run.Given as goal
 
@@ -7,9 +7,10 @@ use Rattle.replay.proofs.run.run.Given as goal
 abbrev pub invariant-loop-ahead : goal.invariant-loop-ahead
 invariant-loop-ahead g l =
     (l.ahead.bytes ≡ l.reader.bytes) × (l.accepted + l.refused ≤ l.ahead.place)
+    × StillLent l.initial.tables l.tables
     × Walk g.R.Record.kind l.reader.bytes.now l.reader.place
-    (world l.initial.ring l.initial.tray l.initial.book l.initial.sheets) (g.C.Chooser.meaning l.initial.chooser)
-    l.ahead.place (world l.ring l.tray l.book l.sheets) (g.C.Chooser.meaning l.chooser) l.accepted
+    (world_of l.initial.ring l.initial.tables) (g.C.Chooser.meaning l.initial.chooser)
+    l.ahead.place (world_of l.ring l.tables) (g.C.Chooser.meaning l.chooser) l.accepted
     l.refused
 
 -- what is left of the bytes
