@@ -1,5 +1,5 @@
 ghost use Rattle.std.specs.Prelude.{◌≡◌, ℕ, ◌<◌, ◌++◌, IfOk, None, string_bytes};
-ghost use Rattle.ring.specs.World.{world};
+ghost use Rattle.ring.specs.World.{world_in};
 ghost use Rattle.ring.specs.Show.{show_refusal};
 ghost use Rattle.report.specs.Lines.{nodes_text, counts_text, ended};
 ghost use Rattle.report.specs.Reports.{Printed};
@@ -12,6 +12,7 @@ use record::record::Record;
 use replay::tally::Tally;
 use replay::whole_day::run_day;
 use ring::ring::Ring;
+use ring::tables::{Tables, TablesMut};
 use rows::letter::{EMPTY, Letter};
 use rows::size::RingSize;
 use schedule::reader::Reader;
@@ -37,28 +38,23 @@ const NO_COMMAND: Command = Command {
 fn day_lines(
     heap: Global,
     ring: &Ring,
-    tray: &[Letter],
-    book: &[Command],
-    sheets: &[u8],
+    tables: Tables<'_>,
     size: RingSize,
     tally: Tally,
 ) -> Result<String, AllocError>
-    requires { (node : ℕ) → node < size.n → show_refusal (world ring.now tray.now book.now sheets.now) node ≡ None }
+    requires { (node : ℕ) → node < size.n → show_refusal (world_in ring.now tables) node ≡ None }
     ensures { IfOk result (λ s. string_bytes s ≡
-        ended (nodes_text (world ring.now tray.now book.now sheets.now) size.n
+        ended (nodes_text (world_in ring.now tables.entry) size.n
         ++ counts_text tally.accepted tally.refused) tally.fault) }
 {
-    let mut text = node_lines(heap, ring, tray, book, sheets, size)?;
+    let mut text = node_lines(heap, ring, tables, size)?;
     let counts = counts_line(heap, tally.accepted, tally.refused)?;
     text.push_str(counts.as_str())?;
-    match tally.fault {
-        Some(fault) => {
-            let line = fault_line(heap, fault)?;
-            text.push_str(line.as_str())?;
-            Ok(text)
-        }
-        None => Ok(text),
+    if let Some(fault) = tally.fault {
+        let line = fault_line(heap, fault)?;
+        text.push_str(line.as_str())?;
     }
+    Ok(text)
 }
 
 // Runs a day on a new ring with a tray of 1,024 places, and answers its lines.
@@ -71,26 +67,17 @@ pub fn day_text<R: Record, C: Chooser>(
     ensures { IfOk result (λ s. Printed R.Record.kind size reader.entry.bytes.now reader.entry.place
         (C.Chooser.meaning chooser.old) (string_bytes s)) }
 {
-    let mut ring = Ring::new();
     let mut tray = [NO_LETTER; 1024];
     let mut book = [NO_COMMAND; 64];
     let mut sheets = [0u8; 448];
-    match run_day::<R, C>(
-        size,
-        reader,
-        &mut ring,
-        &mut tray,
-        &mut book,
-        &mut sheets,
-        chooser,
-    ) {
-        Ok(tally) => {
-            let text = day_lines(heap, &ring, &tray, &book, &sheets, size, tally)?;
-            Ok(text)
-        }
-        Err(refusal) => {
-            let line = start_line(heap, refusal)?;
-            Ok(line)
-        }
+    let mut tables = TablesMut {
+        tray: &mut tray,
+        book: &mut book,
+        sheets: &mut sheets,
+    };
+    let mut ring = Ring::new();
+    match run_day::<R, C>(size, reader, &mut ring, &mut tables, chooser) {
+        Ok(tally) => day_lines(heap, &ring, tables.view(), size, tally),
+        Err(refusal) => start_line(heap, refusal),
     }
 }

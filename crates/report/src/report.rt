@@ -46,19 +46,10 @@ fn with_chooser<C: Chooser>(
         (C.Chooser.meaning chooser.old) (string_bytes s)) }
 {
     match kind {
-        RecordKind::Kitty => {
-            let text = day_text::<Kitty, C>(heap, reader, size, chooser)?;
-            Ok(text)
-        }
-        RecordKind::Rounds => {
-            let text = day_text::<Rounds, C>(heap, reader, size, chooser)?;
-            Ok(text)
-        }
+        RecordKind::Kitty => day_text::<Kitty, C>(heap, reader, size, chooser),
+        RecordKind::Rounds => day_text::<Rounds, C>(heap, reader, size, chooser),
         RecordKind::Both => {
-            let text = day_text::<Pair<Kitty, ClosingBook<Rounds>>, C>(
-                heap, reader, size, chooser,
-            )?;
-            Ok(text)
+            day_text::<Pair<Kitty, ClosingBook<Rounds>>, C>(heap, reader, size, chooser)
         }
     }
 }
@@ -77,17 +68,14 @@ fn with_size(
     match header.chooser {
         ChooserKind::FirstCome => {
             let mut chooser = FirstCome::new();
-            let text = with_chooser(heap, reader, header.record, size, &mut chooser)?;
-            Ok(text)
+            with_chooser(heap, reader, header.record, size, &mut chooser)
         }
-        ChooserKind::LowestOf => match LowestOf::new(size.q) {
-            Ok(made) => {
-                let mut chooser = made;
-                let text = with_chooser(heap, reader, header.record, size, &mut chooser)?;
-                Ok(text)
-            }
-            Err(_) => Ok(String::new(heap)),
-        },
+        ChooserKind::LowestOf => {
+            let Ok(mut chooser) = LowestOf::new(size.q) else {
+                unreachable!();
+            };
+            with_chooser(heap, reader, header.record, size, &mut chooser)
+        }
     }
 }
 
@@ -97,14 +85,8 @@ fn with_header(heap: Global, reader: Reader<'_>, header: Header) -> Result<Strin
         reader.entry.place (string_bytes s)) }
 {
     match size_of(header.n, header.q) {
-        Ok(size) => {
-            let text = with_size(heap, reader, header, size)?;
-            Ok(text)
-        }
-        Err(refusal) => {
-            let line = start_line(heap, refusal)?;
-            Ok(line)
-        }
+        Ok(size) => with_size(heap, reader, header, size),
+        Err(refusal) => start_line(heap, refusal),
     }
 }
 
@@ -113,18 +95,11 @@ pub fn report_of(heap: Global, bytes: &[u8]) -> Result<String, AllocError>
     ensures { IfOk result (λ s. Reported bytes.now (string_bytes s)) }
 {
     if bytes.len() > MOST_BYTES {
-        let line = long_line(heap)?;
-        return Ok(line);
+        return long_line(heap);
     }
     let mut reader = Reader::new(bytes);
     match reader.header() {
-        Ok(header) => {
-            let text = with_header(heap, reader, header)?;
-            Ok(text)
-        }
-        Err(fault) => {
-            let line = fault_line(heap, fault)?;
-            Ok(line)
-        }
+        Ok(header) => with_header(heap, reader, header),
+        Err(fault) => fault_line(heap, fault),
     }
 }

@@ -1,12 +1,11 @@
 ghost use Rattle.std.specs.Prelude.{◌≡◌, ℕ, ◌<◌, ◌++◌, IfOk, None, string_bytes, OnOk};
 ghost use Rattle.std.specs.List.{flat_map};
-ghost use Rattle.ring.specs.World.{world};
+ghost use Rattle.ring.specs.World.{world_in};
 ghost use Rattle.ring.specs.Show.{show_refusal};
 ghost use Rattle.report.specs.Lines.{message_text, state_text, head_text, node_text, nodes_text};
 
-use record::command::Command;
 use ring::ring::Ring;
-use rows::letter::Letter;
+use ring::tables::Tables;
 use rows::size::RingSize;
 use std::alloc::{AllocError, Global};
 
@@ -45,20 +44,13 @@ fn push_sheet(text: &mut String, heap: Global, sheet: &[u8]) -> Result<(), Alloc
 }
 
 // The line of a node.
-fn node_line(
-    heap: Global,
-    ring: &Ring,
-    tray: &[Letter],
-    book: &[Command],
-    sheets: &[u8],
-    node: u8,
-) -> Result<String, AllocError>
-    requires { show_refusal (world ring.now tray.now book.now sheets.now) node ≡ None }
+fn node_line(heap: Global, ring: &Ring, tables: Tables<'_>, node: u8) -> Result<String, AllocError>
+    requires { show_refusal (world_in ring.now tables) node ≡ None }
     ensures { IfOk result (λ s. string_bytes s ≡
-        node_text (world ring.now tray.now book.now sheets.now) node) }
+        node_text (world_in ring.now tables.entry) node) }
 {
     match (
-        ring.show(tray, book, sheets, node),
+        ring.show(tables, node),
         ring.stage(node),
         ring.is_live(node),
     ) {
@@ -68,7 +60,7 @@ fn node_line(
             line.push_str("\n")?;
             Ok(line)
         }
-        _ => Ok(String::new(heap)),
+        _ => unreachable!(),
     }
 }
 
@@ -76,18 +68,16 @@ fn node_line(
 pub(crate) fn node_lines(
     heap: Global,
     ring: &Ring,
-    tray: &[Letter],
-    book: &[Command],
-    sheets: &[u8],
+    tables: Tables<'_>,
     size: RingSize,
 ) -> Result<String, AllocError>
-    requires { (node : ℕ) → node < size.n → show_refusal (world ring.now tray.now book.now sheets.now) node ≡ None }
+    requires { (node : ℕ) → node < size.n → show_refusal (world_in ring.now tables) node ≡ None }
     ensures { IfOk result (λ s. string_bytes s ≡
-        nodes_text (world ring.now tray.now book.now sheets.now) size.n) }
+        nodes_text (world_in ring.now tables.entry) size.n) }
 {
     let mut text = String::new(heap);
     for node in 0..size.n {
-        let line = node_line(heap, ring, tray, book, sheets, node)?;
+        let line = node_line(heap, ring, tables, node)?;
         text.push_str(line.as_str())?;
     }
     Ok(text)

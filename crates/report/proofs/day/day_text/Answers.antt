@@ -1,33 +1,38 @@
-use Rattle.std.proofs.Common.{◌≡◌, ℕ, List, replicate, string_bytes, subst, rules}
+use Rattle.std.proofs.Common.{◌≡◌, ℕ, ◌<◌, List, replicate, None, string_bytes, sym, subst, rules}
+use Rattle.std.proofs.lemmas.Result.{IfOk-weaker}
 use Rattle.chooser.specs.Meaning.{Meaning}
 use Rattle.rows.specs.Conflicts.{no_command}
 use Rattle.rows.specs.Letters.{no_letter}
-use Rattle.ring.specs.World.{World, world}
+use Rattle.ring.specs.World.{World, world, world_in, world_of}
+use Rattle.ring.specs.Show.{show_refusal}
 use Rattle.ring.specs.declared.ring.Ring.{Ring}
 use Rattle.replay.specs.WholeDay.{Days}
-use Rattle.report.specs.Reports.{day_text}
+use Rattle.report.specs.Reports.{outset, day_text}
 use Rattle.report.proofs.EveryNodeShown.{every_node_shown}
 use Rattle.report.proofs.day.day_text.Goals as goal
 
 pub day_lines-requires : goal.day_lines-requires
 day_lines-requires g c =
-    let w : World = world c.run_day.new.ring c.run_day.new.tray c.run_day.new.book c.run_day.new.sheets in
-    every_node_shown g.R.Record.kind c.args.size w (g.C.Chooser.meaning c.run_day.new.chooser)
-    c.in-Ok.ensures.kept
+    let left : World = world_of c.run_day.new.ring c.run_day.new.tables in
+    let viewed : World = world_in c.run_day.new.ring c.view.result in
+    let same : viewed ≡ left = search rules in
+    subst (λ (w : World). (node : ℕ) → node < c.args.size.n → show_refusal w node ≡ None) (sym same)
+    (every_node_shown g.R.Record.kind c.args.size left (g.C.Chooser.meaning c.run_day.new.chooser)
+    c.in-Ok.ensures.days.kept)
 
-pub returns-in_ok-text-in-Ok : goal.returns-in_ok-text-in-Ok
-returns-in_ok-text-in-Ok g c =
-    let left : World = world c.run_day.new.ring c.run_day.new.tray c.run_day.new.book c.run_day.new.sheets in
+pub returns-in-Ok : goal.returns-in-Ok
+returns-in-Ok g c =
+    let left : World = world_of c.run_day.new.ring c.run_day.new.tables in
+    let viewed : World = world_in c.run_day.new.ring c.view.result in
+    let same : viewed ≡ left = search rules in
     let M : Meaning = g.C.Chooser.meaning c.args.chooser.now in
     let N : Meaning = g.C.Chooser.meaning c.run_day.new.chooser in
     let bytes : List ℕ = c.args.reader.bytes.now in
-    let told : string_bytes c.in_ok-text-in-Ok.text ≡ day_text c.run_day.result c.args.size left = search rules in
-    record {
-      answer = c.run_day.result;
-      left = left;
-      meaning = N;
-      ran = subst (λ (r : Ring). Days g.R.Record.kind c.args.size bytes c.args.reader.place
-          (world r (replicate 1024 no_letter) (replicate 64 no_command) (replicate 448 0)) M c.run_day.result left N)
-          c.new-ring.ensures c.run_day.ensures;
-      told = told;
-    }
+    let day = subst (λ (r : Ring). Days g.R.Record.kind c.args.size bytes c.args.reader.place
+    (world r (replicate 1024 no_letter) (replicate 64 no_command) (replicate 448 0)) M c.run_day.result left N)
+    c.new-ring.ensures c.run_day.ensures.days in
+    let seen = subst (λ (w : World). Days g.R.Record.kind c.args.size bytes c.args.reader.place outset M c.run_day.result w N)
+    (sym same) day in
+    IfOk-weaker c.day_lines.result _ _ (λ s h.
+    let told : string_bytes s ≡ day_text c.run_day.result c.args.size viewed = rw c.in-Ok.is h in
+    record { answer = c.run_day.result; left = viewed; meaning = N; ran = seen; told = told }) c.day_lines.ensures
