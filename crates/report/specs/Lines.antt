@@ -37,11 +37,14 @@ abbrev pub head_text : ℕ → ℕ → Bool → List ℕ
 head_text node stage live =
     codes "node " ++ (decimal node ++ (codes " stage " ++ (decimal stage ++ (codes " " ++ state_text live))))
 
--- the line of a node: that, and then the numbers on its sheet
+-- that, and then the messages on its sheet
+abbrev pub report_text : ℕ → ℕ → Bool → List ℕ → List ℕ
+report_text node stage live sheet = head_text node stage live ++ flat_map message_text sheet
+
+-- the line of a node
 abbrev pub node_text : World → ℕ → List ℕ
 node_text w node =
-    (head_text node (row_of w node).stage (not (has_crashed w.ring node)) ++ flat_map message_text (sheet_of w node))
-    ++ codes "\n"
+    report_text node (row_of w node).stage (not (has_crashed w.ring node)) (sheet_of w node) ++ codes "\n"
 
 -- the lines of the nodes below n
 unfoldable pub nodes_text : World → ℕ → List ℕ

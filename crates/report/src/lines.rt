@@ -17,8 +17,7 @@ pub fn start_line(heap: Global, refusal: Refusal) -> Result<String, AllocError>
     ensures { IfOk result (λ s. string_bytes s ≡ start_text refusal) }
 {
     let number = refusal.number();
-    let line = format!(in heap; "start {number}\n")?;
-    Ok(line)
+    format!(in heap; "start {number}\n")
 }
 
 // The line of a fault.
@@ -27,8 +26,7 @@ pub fn fault_line(heap: Global, fault: EntryFault) -> Result<String, AllocError>
 {
     let number = fault.number();
     let place = fault.place();
-    let line = format!(in heap; "fault {number} at {place}\n")?;
-    Ok(line)
+    format!(in heap; "fault {number} at {place}\n")
 }
 
 // The line of the counts.

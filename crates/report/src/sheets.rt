@@ -1,13 +1,22 @@
-ghost use Rattle.std.specs.Prelude.{◌≡◌, ℕ, ◌<◌, ◌++◌, IfOk, None, string_bytes, OnOk};
-ghost use Rattle.std.specs.List.{flat_map};
+ghost use Rattle.std.specs.Prelude.{◌≡◌, ℕ, ◌<◌, IfOk, None, Some, string_bytes};
 ghost use Rattle.ring.specs.World.{world_in};
 ghost use Rattle.ring.specs.Show.{show_refusal};
-ghost use Rattle.report.specs.Lines.{message_text, state_text, head_text, node_text, nodes_text};
+ghost use Rattle.report.specs.Lines.{state_text, report_text, node_text, nodes_text};
 
 use ring::ring::Ring;
 use ring::tables::Tables;
 use rows::size::RingSize;
 use std::alloc::{AllocError, Global};
+use std::fmt;
+
+// What is reported of a node: its number, its stage, whether it lives, and the messages on its sheet.
+#[derive(Clone, Copy)]
+struct NodeReport<'a> {
+    node: u8,
+    stage: u32,
+    live: bool,
+    sheet: &'a [u8],
+}
 
 // Whether a node lives, in words.
 fn state_word(live: bool) -> &'static str
@@ -16,38 +25,29 @@ fn state_word(live: bool) -> &'static str
     if live { "live" } else { "crashed" }
 }
 
-// What stands on a node's line before its sheet.
-fn node_head(heap: Global, node: u8, stage: u32, live: bool) -> Result<String, AllocError>
-    ensures { IfOk result (λ s. string_bytes s ≡ head_text node stage live) }
-{
-    let state = state_word(live);
-    format!(in heap; "node {node} stage {stage} {state}")
-}
+impl fmt::Display for NodeReport<'_> {
+    ghost output = { λ r. Some (report_text r.node r.stage r.live r.sheet.now) };
 
-// One message of a sheet.
-fn message_word(heap: Global, message: u8) -> Result<String, AllocError>
-    ensures { IfOk result (λ s. string_bytes s ≡ message_text message) }
-{
-    format!(in heap; " {message}")
-}
-
-// Writes the messages of a sheet behind the text.
-fn push_sheet(text: &mut String, heap: Global, sheet: &[u8]) -> Result<(), AllocError>
-    ensures { OnOk result (string_bytes text.new ≡
-        string_bytes text.old ++ flat_map message_text sheet.now) }
-{
-    for message in sheet {
-        let word = message_word(heap, *message)?;
-        text.push_str(word.as_str())?;
+    fn fmt<W: fmt::Write>(&self, f: &mut fmt::Formatter<W>) -> fmt::Result {
+        let NodeReport {
+            node,
+            stage,
+            live,
+            sheet,
+        } = *self;
+        let state = state_word(live);
+        write!(f, "node {node} stage {stage} {state}")?;
+        for message in sheet {
+            write!(f, " {message}")?;
+        }
+        Ok(())
     }
-    Ok(())
 }
 
 // The line of a node.
 fn node_line(heap: Global, ring: &Ring, tables: Tables<'_>, node: u8) -> Result<String, AllocError>
     requires { show_refusal (world_in ring.now tables) node ≡ None }
-    ensures { IfOk result (λ s. string_bytes s ≡
-        node_text (world_in ring.now tables.entry) node) }
+    ensures { IfOk result (λ s. string_bytes s ≡ node_text (world_in ring.now tables.entry) node) }
 {
     match (
         ring.show(tables, node),
@@ -55,10 +55,13 @@ fn node_line(heap: Global, ring: &Ring, tables: Tables<'_>, node: u8) -> Result<
         ring.is_live(node),
     ) {
         (Ok(sheet), Ok(stage), Ok(live)) => {
-            let mut line = node_head(heap, node, stage, live)?;
-            push_sheet(&mut line, heap, sheet)?;
-            line.push_str("\n")?;
-            Ok(line)
+            let report = NodeReport {
+                node,
+                stage,
+                live,
+                sheet,
+            };
+            format!(in heap; "{report}\n")
         }
         _ => unreachable!(),
     }
@@ -72,8 +75,7 @@ pub(crate) fn node_lines(
     size: RingSize,
 ) -> Result<String, AllocError>
     requires { (node : ℕ) → node < size.n → show_refusal (world_in ring.now tables) node ≡ None }
-    ensures { IfOk result (λ s. string_bytes s ≡
-        nodes_text (world_in ring.now tables.entry) size.n) }
+    ensures { IfOk result (λ s. string_bytes s ≡ nodes_text (world_in ring.now tables.entry) size.n) }
 {
     let mut text = String::new(heap);
     for node in 0..size.n {

@@ -4,6 +4,7 @@ use record::command::Command;
 use record::kitty::Kitty;
 use record::record::Record;
 use ring::ring::Ring;
+use ring::tables::{Tables, TablesMut};
 use rows::letter::Letter;
 use rows::refusal::Refusal;
 use rows::size::RingSize;
@@ -62,6 +63,15 @@ pub(crate) const NO_LETTER: Letter = Letter {
     set: 0,
 };
 
+// Tables that are lent to a call.
+pub(crate) fn lend<'a>(
+    tray: &'a mut [Letter],
+    book: &'a mut [Command],
+    sheets: &'a mut [u8],
+) -> TablesMut<'a> {
+    TablesMut { tray, book, sheets }
+}
+
 // The number of a refusal, and 0 for an accepted call.
 pub(crate) fn number_of<T: Drop>(answer: Result<T, Refusal>) -> u8 {
     match answer {
@@ -91,52 +101,38 @@ impl Desk {
     }
 
     pub(crate) fn start(&mut self, size: RingSize) -> Result<(), Refusal> {
-        self.ring.start(
-            size,
-            &mut self.tray,
-            &mut self.book,
-            &mut self.sheets,
-            &self.chooser,
-        )
+        let mut tables = lend(&mut self.tray, &mut self.book, &mut self.sheets);
+        self.ring.start(size, &mut tables, &self.chooser)
     }
 
     // Makes the call, and answers its number.
     pub(crate) fn call(&mut self, call: Call) -> u8 {
+        let mut tables = lend(&mut self.tray, &mut self.book, &mut self.sheets);
+        let ring = &mut self.ring;
         match call {
-            Call::Broadcast(node, command) => number_of(
-                self.ring.broadcast::<Kitty>(
-                    &mut self.tray,
-                    &mut self.book,
-                    &mut self.sheets,
-                    node,
-                    command,
-                ),
-            ),
-            Call::Receive(place) => {
-                number_of(
-                    self.ring
-                        .receive(&mut self.tray, &mut self.book, &mut self.sheets, place),
-                )
+            Call::Broadcast(node, command) => {
+                number_of(ring.broadcast::<Kitty>(&mut tables, node, command))
             }
-            Call::Step(node) => number_of(
-                self.ring.step::<Kitty, FirstCome>(
-                    &mut self.tray,
-                    &mut self.book,
-                    &mut self.sheets,
-                    &mut self.chooser,
-                    node,
-                ),
-            ),
-            Call::Crash(node) => number_of(self.ring.crash(node)),
-            Call::Lose(place) => number_of(
-                self.ring
-                    .lose(&mut self.tray, &mut self.book, &mut self.sheets, place),
-            ),
+            Call::Receive(place) => number_of(ring.receive(&mut tables, place)),
+            Call::Step(node) => {
+                number_of(ring.step::<Kitty, FirstCome>(&mut tables, &mut self.chooser, node))
+            }
+            Call::Crash(node) => number_of(ring.crash(node)),
+            Call::Lose(place) => number_of(ring.lose(&mut tables, place)),
+        }
+    }
+
+    // The tables, to be read.
+    pub(crate) fn tables(&self) -> Tables<'_> {
+        Tables {
+            tray: &self.tray,
+            book: &self.book,
+            sheets: &self.sheets,
         }
     }
 
     // The messages that a node delivered.
     pub(crate) fn sheet(&self, node: u8) -> Result<&[u8], Refusal> {
-        self.ring.show(&self.tray, &self.book, &self.sheets, node)
+        self.ring.show(self.tables(), node)
     }
 }

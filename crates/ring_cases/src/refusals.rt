@@ -74,10 +74,8 @@ fn full_tray(rt: HostRuntime) -> Result<(), Fail> {
 
 // The number of one more broadcast, with a tray of its own.
 fn broadcast_into(desk: &mut Desk, tray: &mut [Letter; 64]) -> u8 {
-    number_of(
-        desk.ring
-            .broadcast::<Kitty>(tray, &mut desk.book, &mut desk.sheets, 0, PAY),
-    )
+    let mut tables = lend(tray, &mut desk.book, &mut desk.sheets);
+    number_of(desk.ring.broadcast::<Kitty>(&mut tables, 0, PAY))
 }
 
 // The sixty-fifth message is refused before the tray is looked at.
@@ -97,23 +95,18 @@ fn full_book(rt: HostRuntime) -> Result<(), Fail> {
 fn wrong_tables(rt: HostRuntime) -> Result<(), Fail> {
     let mut desk = Desk::started(1, 1)?;
     let ring = &mut desk.ring;
-    let tray = &mut desk.tray;
-    let short = &mut desk.sheets[0..447];
-    assert_eq!(rt; number_of(ring.receive(tray, &mut desk.book, short, 9)), 4);
-    assert_eq!(rt; number_of(ring.lose(tray, &mut desk.book, short, 9)), 4);
+    let mut short = lend(&mut desk.tray, &mut desk.book, &mut desk.sheets[0..447]);
+    assert_eq!(rt; number_of(ring.receive(&mut short, 9)), 4);
+    assert_eq!(rt; number_of(ring.lose(&mut short, 9)), 4);
     assert_eq!(rt;
-        number_of(ring.broadcast::<Kitty>(tray, &mut desk.book, short, 9, UNLAWFUL)),
+        number_of(ring.broadcast::<Kitty>(&mut short, 9, UNLAWFUL)),
         4
     );
-    assert_eq!(rt; number_of(ring.show(tray, &desk.book, short, 9)), 4);
+    assert_eq!(rt; number_of(ring.show(short.view(), 9)), 4);
     let mut long = [NO_LETTER; 4097];
-    assert_eq!(rt;
-        number_of(ring.receive(&mut long, &mut desk.book, &mut desk.sheets, 9)),
-        4
-    );
-    assert_eq!(rt;
-        number_of(ring.receive(&mut desk.tray, &mut desk.book[0..0], &mut desk.sheets, 9)),
-        4
-    );
+    let mut tables = lend(&mut long, &mut desk.book, &mut desk.sheets);
+    assert_eq!(rt; number_of(ring.receive(&mut tables, 9)), 4);
+    let mut tables = lend(&mut desk.tray, &mut desk.book[0..0], &mut desk.sheets);
+    assert_eq!(rt; number_of(ring.receive(&mut tables, 9)), 4);
     Ok(())
 }

@@ -39,56 +39,16 @@ fn starts(rt: HostRuntime) -> Result<(), Fail> {
     used.propose(32, 6, (0, 0))?;
     let mut desk = Desk::new();
     let ring = &mut desk.ring;
-    assert_eq!(rt;
-        number_of(ring.start(
-            size,
-            &mut desk.tray[0..0],
-            &mut desk.book,
-            &mut desk.sheets,
-            &greedy,
-        )),
-        4
-    );
-    assert_eq!(rt;
-        number_of(ring.start(
-            size,
-            &mut desk.tray,
-            &mut desk.book[0..63],
-            &mut desk.sheets,
-            &greedy,
-        )),
-        4
-    );
-    assert_eq!(rt;
-        number_of(ring.start(
-            size,
-            &mut desk.tray,
-            &mut desk.book,
-            &mut desk.sheets[1..448],
-            &greedy,
-        )),
-        4
-    );
-    assert_eq!(rt;
-        number_of(ring.start(
-            size,
-            &mut desk.tray,
-            &mut desk.book,
-            &mut desk.sheets,
-            &greedy,
-        )),
-        5
-    );
-    assert_eq!(rt;
-        number_of(ring.start(
-            size,
-            &mut desk.tray,
-            &mut desk.book,
-            &mut desk.sheets,
-            &used,
-        )),
-        6
-    );
+    let mut tables = lend(&mut desk.tray[0..0], &mut desk.book, &mut desk.sheets);
+    assert_eq!(rt; number_of(ring.start(size, &mut tables, &greedy)), 4);
+    let mut tables = lend(&mut desk.tray, &mut desk.book[0..63], &mut desk.sheets);
+    assert_eq!(rt; number_of(ring.start(size, &mut tables, &greedy)), 4);
+    let mut tables = lend(&mut desk.tray, &mut desk.book, &mut desk.sheets[1..448]);
+    assert_eq!(rt; number_of(ring.start(size, &mut tables, &greedy)), 4);
+    let mut tables = lend(&mut desk.tray, &mut desk.book, &mut desk.sheets);
+    assert_eq!(rt; number_of(ring.start(size, &mut tables, &greedy)), 5);
+    let mut tables = lend(&mut desk.tray, &mut desk.book, &mut desk.sheets);
+    assert_eq!(rt; number_of(ring.start(size, &mut tables, &used)), 6);
     assert_eq!(rt; desk.sheets[0], 7);
     assert_eq!(rt; number_of(desk.start(size)), 0);
     assert_eq!(rt; desk.sheets[0], 0);

@@ -40,13 +40,9 @@ fn early(rt: HostRuntime) -> Result<(), Fail> {
 
 // What a step of the only node answers.
 fn step(desk: &mut Desk) -> Result<Step, Refusal> {
-    desk.ring.step::<Kitty, FirstCome>(
-        &mut desk.tray,
-        &mut desk.book,
-        &mut desk.sheets,
-        &mut desk.chooser,
-        0,
-    )
+    let mut tables = lend(&mut desk.tray, &mut desk.book, &mut desk.sheets);
+    desk.ring
+        .step::<Kitty, FirstCome>(&mut tables, &mut desk.chooser, 0)
 }
 
 // Two conflicting messages close the stage of a ring of one, and the decision settles it.
@@ -125,13 +121,8 @@ fn acknowledged_while_closing(rt: HostRuntime) -> Result<(), Fail> {
 // Two nodes that both received two conflicting messages and closed their stage, and keep no check yet.
 fn both_closed(rt: &impl Abort, chooser: &mut LowestOf) -> Result<Desk, Fail> {
     let mut desk = Desk::new();
-    desk.ring.start(
-        RingSize::new(2, 2)?,
-        &mut desk.tray,
-        &mut desk.book,
-        &mut desk.sheets,
-        chooser,
-    )?;
+    let mut tables = lend(&mut desk.tray, &mut desk.book, &mut desk.sheets);
+    desk.ring.start(RingSize::new(2, 2)?, &mut tables, chooser)?;
     let calls = [
         Call::Broadcast(0, PAY),
         Call::Broadcast(0, DRAW),
@@ -150,14 +141,10 @@ fn both_closed(rt: &impl Abort, chooser: &mut LowestOf) -> Result<Desk, Fail> {
 
 // The number of a step with a chooser of its own.
 fn step_with(desk: &mut Desk, chooser: &mut LowestOf, node: u8) -> u8 {
+    let mut tables = lend(&mut desk.tray, &mut desk.book, &mut desk.sheets);
     number_of(
-        desk.ring.step::<Kitty, LowestOf>(
-            &mut desk.tray,
-            &mut desk.book,
-            &mut desk.sheets,
-            chooser,
-            node,
-        ),
+        desk.ring
+            .step::<Kitty, LowestOf>(&mut tables, chooser, node),
     )
 }
 
