@@ -83,7 +83,6 @@ module _ {K : Kind} (laws : Laws K) {z : RingSize} {need : ℕ} {low : 1 ≤ nee
         fine = record {
           size = f.size;
           nodes_length = f.nodes_length;
-          crashed_length = f.crashed_length;
           broadcasters_length = length-set w.ring.broadcasters now node ∙ f.broadcasters_length;
           rows = f.rows;
           tables = ap₂ (λ (tray book : ℕ). wrong_sizes tray book (length w.sheets)) same (length-set w.book now c)

@@ -1,26 +1,28 @@
 -- A world in which one node's row is another: what stays known of it, and how it is seen.
-use Rattle.std.proofs.Common.{◌≡◌, ℕ, ◌^◌, ◌<◌, ◌≤◌, List, length, get_or, set, sym, ap, ◌∙◌, subst, ap₂, inl, inr, arith}
+use Rattle.std.proofs.Common.{◌≡◌, ℕ, ◌^◌, ◌<◌, ◌≤◌, List, length, get_or, sym, ap, ◌∙◌, subst, ap₂, inl, inr, arith}
 use lib.Bits.{or_lt}
 use Rattle.std.proofs.lemmas.Bool.{cases_eq}
-use Rattle.std.proofs.lemmas.List.{get_or-set_same, get_or-set_other, length-set}
+use Rattle.std.proofs.lemmas.List.{length-set}
 use Rattle.record.specs.Kind.{Kind}
 use Rattle.chooser.specs.Meaning.{Meaning}
-use Rattle.rows.specs.Rows.{no_row, on_sheet}
+use Rattle.rows.specs.Rows.{on_sheet}
 use Rattle.rows.specs.declared.letter.Letter.{Letter}
 use Rattle.rows.specs.declared.row.Check.{Check}
 use Rattle.rows.specs.declared.row.Row.{Row}
 use Rattle.rows.specs.declared.size.RingSize.{RingSize}
-use Rattle.ring.specs.World.{World, nodes_of, quorum_of, row_of, with_row, with_used, wrong_sizes}
+use Rattle.ring.specs.World.{World, nodes_of, quorum_of, node_of, row_of, with_row, with_used, wrong_sizes}
+use Rattle.ring.specs.declared.ring.Ring.{Ring}
 use Rattle.ring.proofs.Membership.{known_small}
+use Rattle.ring.proofs.NodesKept.{row_here, row_elsewhere}
 use Rattle.ring.proofs.Seeing.{seen_node, Apart, RowFine, Fine, Joined}
 
 -- what holds of every row and of the new one holds of every row after it is set
-rows_set : (P : ℕ → Row → Type 0) (rows : List Row) (i : ℕ) (row : Row) (r : ℕ) → P i row
-    → ((r ≡ i → ⊥) → P r (get_or rows r no_row)) → i < length rows → P r (get_or (set rows i row) r no_row)
-rows_set P rows i row r p old l = elim (cases_eq r i) [
-  | inl e ↦ subst (λ (x : ℕ). P x (get_or (set rows i row) x no_row)) (sym e)
-      (subst (λ (m : Row). P i m) (sym (get_or-set_same rows i row no_row l)) p)
-  | inr d ↦ subst (λ (m : Row). P r m) (sym (get_or-set_other rows i r row no_row d)) (old d)
+rows_set : (P : ℕ → Row → Type 0) (q : Ring) (i : ℕ) (row : Row) (r : ℕ) → P i row
+    → ((r ≡ i → ⊥) → P r (node_of q r).row) → i < length q.nodes → P r (node_of (with_row i row q) r).row
+rows_set P q i row r p old l = elim (cases_eq r i) [
+  | inl e ↦ subst (λ (x : ℕ). P x (node_of (with_row i row q) x).row) (sym e)
+      (subst (λ (m : Row). P i m) (sym (row_here q i row l)) p)
+  | inr d ↦ subst (λ (m : Row). P r m) (sym (row_elsewhere q i row r d)) (old d)
 ]
 
 -- the world with another row of a node, and other places used, tray and sheets
@@ -51,24 +53,23 @@ module _ {K : Kind} {z : RingSize} {w : World} (f : Fine K z w) where
       → Fine K z (changed w node row used tray sheets)
   fine_changed node l row g used tray sheets same-tray fits same-sheets = record {
     size = f.size;
-    nodes_length = length-set w.ring.nodes node row ∙ f.nodes_length;
-    crashed_length = f.crashed_length;
+    nodes_length = length-set w.ring.nodes node _ ∙ f.nodes_length;
     broadcasters_length = f.broadcasters_length;
-    rows = λ r k. rows_set (λ i m. RowFine z m) w.ring.nodes node row r g (λ d. f.rows r k) (has_row node l);
+    rows = λ r k. rows_set (λ i m. RowFine z m) w.ring node row r g (λ d. f.rows r k) (has_row node l);
     tables = ap₂ (λ (t s : ℕ). wrong_sizes t (length w.book) s) same-tray same-sheets ∙ f.tables;
     used_in_tray = fits;
     lawful = f.lawful;
   }
 
 -- another node than the changed one is seen as before, where the sheets stay
-pub other_seen : (sheets : List ℕ) (rows : List Row) (node : ℕ) (row : Row) (x : ℕ) → (x ≡ node → ⊥)
-    → seen_node sheets x (get_or (set rows node row) x no_row) ≡ seen_node sheets x (get_or rows x no_row)
-other_seen sheets rows node row x d = ap (seen_node sheets x) (get_or-set_other rows node x row no_row d)
+pub other_seen : (sheets : List ℕ) (r : Ring) (node : ℕ) (row : Row) (x : ℕ) → (x ≡ node → ⊥)
+    → seen_node sheets x (node_of (with_row node row r) x).row ≡ seen_node sheets x (node_of r x).row
+other_seen sheets r node row x d = ap (seen_node sheets x) (row_elsewhere r node row x d)
 
 -- the changed one is seen as it is now
-pub row_seen : (sheets : List ℕ) (rows : List Row) (node : ℕ) (row : Row) → node < length rows
-    → seen_node sheets node (get_or (set rows node row) node no_row) ≡ seen_node sheets node row
-row_seen sheets rows node row l = ap (seen_node sheets node) (get_or-set_same rows node row no_row l)
+pub row_seen : (sheets : List ℕ) (r : Ring) (node : ℕ) (row : Row) → node < length r.nodes
+    → seen_node sheets node (node_of (with_row node row r) node).row ≡ seen_node sheets node row
+row_seen sheets r node row l = ap (seen_node sheets node) (row_here r node row l)
 
 -- a row with the same tables is as fine
 pub fine_row : {z : RingSize} {old new : Row} → RowFine z old → new.heard ≡ old.heard → new.checks ≡ old.checks

@@ -1,6 +1,6 @@
 -- A crash and a loss keep a world joined to the protocol.
-use Rattle.std.proofs.Common.{◌≡◌, ℕ, ◌<◌, ◌≤◌, Bool, true, false, not, ◌&&◌, List, length, get_or, set, None, Result, sym, refl}
-use Rattle.std.proofs.Common.{ap, ◌∙◌, subst, inl, inr, arith}
+use Rattle.std.proofs.Common.{◌≡◌, ℕ, ◌<◌, ◌≤◌, Bool, not, ◌&&◌, length, None, Result, sym, refl}
+use Rattle.std.proofs.Common.{ap, ◌∙◌, subst, inl, inr}
 use mathlib.Core.Bool.{and-true}
 use mathlib.Core.Path.{fun_ext}
 use Rattle.std.proofs.lemmas.Bool.{cases_eq, eq-eqb, ne_eqb, and_cases, and_right, not_from_true}
@@ -12,23 +12,26 @@ use Rattle.protocol.specs.Sets.{Set, only, ◌∖◌}
 use Rattle.protocol.proofs.Running.{call_ok}
 use Rattle.rows.specs.Letters.{no_letter}
 use Rattle.rows.specs.declared.refusal.Refusal.{Refusal}
+use Rattle.rows.specs.declared.row.Row.{Row}
 use Rattle.rows.specs.declared.size.RingSize.{RingSize}
 use Rattle.ring.specs.World.{World, has_crashed, letter_at, wrong_sizes, live_refusal, letter_refusal}
 use Rattle.ring.specs.Day.{with_ring}
 use Rattle.ring.specs.Fail.{crashed_by, Crashes, lose_refusal, lost_at, Loses}
 use Rattle.ring.specs.declared.ring.Ring.{Ring}
 use Rattle.ring.proofs.Causes.{refuse_none, first_none, either_way, living, travels}
+use Rattle.ring.proofs.Changing.{has_row}
 use Rattle.ring.proofs.Effects.{same_chooser}
-use Rattle.ring.proofs.Seeing.{seen_letter, Joined}
+use Rattle.ring.proofs.NodesKept.{rows_kept, crashed_here, crashed_elsewhere}
+use Rattle.ring.proofs.Seeing.{seen_letter, seen_node, RowFine, Joined}
 
 -- after a crash, the nodes that live are those that lived, without the crashed one
-without_crashed : (crashed : List Bool) (node : ℕ) → node < length crashed
-    → ◌≡◌ {A = Set} (λ x. not (get_or (set crashed node true) x false)) ((λ x. not (get_or crashed x false)) ∖ only node)
-without_crashed crashed node l = fun_ext (λ x. elim (cases_eq x node) [
-  | inl e ↦ not_from_true _ (ap (λ (y : ℕ). get_or (set crashed node true) y false) e ∙ get_or-set_same crashed node true false l)
-      ∙ sym (and_right (not (get_or crashed x false)) _ (not_from_true _ (eq-eqb x node e)))
-  | inr d ↦ ap not (get_or-set_other crashed node x true false d)
-      ∙ sym (ap (λ (v : Bool). not (get_or crashed x false) && v) (ap not (ne_eqb x node d)) ∙ and-true _)
+without_crashed : (r : Ring) (node : ℕ) → node < length r.nodes
+    → ◌≡◌ {A = Set} (λ x. not (has_crashed (crashed_by r node) x)) ((λ x. not (has_crashed r x)) ∖ only node)
+without_crashed r node l = fun_ext (λ x. elim (cases_eq x node) [
+  | inl e ↦ not_from_true _ (ap (has_crashed (crashed_by r node)) e ∙ crashed_here r node l)
+      ∙ sym (and_right (not (has_crashed r x)) _ (not_from_true _ (eq-eqb x node e)))
+  | inr d ↦ ap not (crashed_elsewhere r node x d)
+      ∙ sym (ap (λ (v : Bool). not (has_crashed r x) && v) (ap not (ne_eqb x node d)) ∙ and-true _)
 ])
 
 module _ {K : Kind} {z : RingSize} {need : ℕ} {low : 1 ≤ need} {high : need ≤ z.q} {w : World} {M : Meaning}
@@ -43,19 +46,18 @@ module _ {K : Kind} {z : RingSize} {need : ℕ} {low : 1 ≤ need} {high : need 
         ok = call_ok j.ok (crashes node (record {
           in_ring = l.in_ring;
           alive = l.alive;
-          live = without_crashed w.ring.crashed node (omega (arith, l.in_ring, f.crashed_length, z.high));
+          live = without_crashed w.ring node (has_row f node l.in_ring);
           letters = λ i k. refl;
           silent = refl;
           book = record { messages = refl; conflict = refl; broadcaster = refl };
           chooser = same_chooser K w (with_ring w (crashed_by w.ring node)) M;
-          nodes = λ x k. refl;
+          nodes = λ x k. ap (seen_node w.sheets x) (rows_kept w.ring node x);
         }));
         fine = record {
           size = f.size;
-          nodes_length = f.nodes_length;
-          crashed_length = length-set w.ring.crashed node true ∙ f.crashed_length;
+          nodes_length = length-set w.ring.nodes node _ ∙ f.nodes_length;
           broadcasters_length = f.broadcasters_length;
-          rows = f.rows;
+          rows = λ x k. subst (λ (row : Row). RowFine z row) (sym (rows_kept w.ring node x)) (f.rows x k);
           tables = f.tables;
           used_in_tray = f.used_in_tray;
           lawful = f.lawful;
@@ -98,7 +100,6 @@ module _ {K : Kind} {z : RingSize} {need : ℕ} {low : 1 ≤ need} {high : need 
         fine = record {
           size = f.size;
           nodes_length = f.nodes_length;
-          crashed_length = f.crashed_length;
           broadcasters_length = f.broadcasters_length;
           rows = f.rows;
           tables = ap (λ (k : ℕ). wrong_sizes k (length w.book) (length w.sheets)) same ∙ f.tables;

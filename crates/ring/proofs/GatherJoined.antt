@@ -30,6 +30,7 @@ use Rattle.ring.proofs.Causes.{refuse_none, Lives}
 use Rattle.ring.proofs.Changing.{has_row, fine_changed, fine_row, other_seen, row_seen, bounds}
 use Rattle.ring.proofs.Effects.{same_chooser, letters_stay, sends_to_all}
 use Rattle.ring.proofs.Membership.{set_minus}
+use Rattle.ring.proofs.NodesKept.{lives_kept}
 use Rattle.ring.proofs.Seeing.{seen, seen_node, size_of, Fine, Joined}
 use Rattle.ring.proofs.Sending.{sent_length}
 
@@ -81,15 +82,15 @@ module _ {K : Kind} {z : RingSize} {need : ℕ} {low : 1 ≤ need} {high : need 
       alive = lives.alive;
       letters = letters_stay j.fine (sending w node l row) M l refl;
       book = record { messages = refl; conflict = refl; broadcaster = refl };
-      live = refl;
+      live = lives_kept w.ring node row;
     }
 
     -- and that it alone changes
     becomes : Becomes (size_of z need low high) (seen K w M) (seen K (sending w node l row) M) node
         (seen_node w.sheets node row)
     becomes = record {
-      here = row_seen w.sheets w.ring.nodes node row (has_row j.fine node lives.in_ring);
-      others = λ x k d. other_seen w.sheets w.ring.nodes node row x d;
+      here = row_seen w.sheets w.ring node row (has_row j.fine node lives.in_ring);
+      others = λ x k d. other_seen w.sheets w.ring node row x d;
     }
 
     -- what is known of the world besides stays so

@@ -1,6 +1,6 @@
 -- Every day that began with a start is told by its accepted broadcasts and crashes.
 use Rattle.std.proofs.Common.{◌≡◌, ℕ, ◌+◌, ◌<◌, Bool, true, false, not, leb, List, [], ◌∷◌, ◌++◌, length, get_or, set, Some, None}
-use Rattle.std.proofs.Common.{Ok, Err, Option, Result, sym, refl, ap, ◌∙◌, subst, inl, inr, arith}
+use Rattle.std.proofs.Common.{Ok, Err, Option, Result, sym, refl, ap, ◌∙◌, subst, ap₂, inl, inr, arith}
 use Rattle.std.proofs.lemmas.List.{get_or_append_left, get_or_push, get_or-set_same, get_or-set_other, length_push, length-set}
 use Rattle.std.proofs.lemmas.List.{length-replicate}
 use Rattle.std.proofs.lemmas.Bool.{cases_eq, leb-false}
@@ -15,8 +15,9 @@ use Rattle.rows.specs.Settlements.{settle_refusal, decided_of}
 use Rattle.rows.specs.declared.refusal.Refusal.{Refusal}
 use Rattle.rows.specs.declared.row.Phase.{Phase}
 use Rattle.rows.specs.declared.row.Phase.TheVariants.{Gathering, Closing}
+use Rattle.rows.specs.declared.row.Row.{Row}
 use Rattle.rows.specs.declared.size.RingSize.{RingSize}
-use Rattle.ring.specs.World.{World, row_of, table_refusal, live_refusal}
+use Rattle.ring.specs.World.{World, row_of, has_crashed, with_row, table_refusal, live_refusal}
 use Rattle.ring.specs.Broadcast.{broadcast_refusal, broadcast_by}
 use Rattle.ring.specs.Close.{Proposing, decision_for, settled_by}
 use Rattle.ring.specs.Day.{Day, begins, broadcasts, receives, steps, crashes, loses, with_ring}
@@ -24,33 +25,43 @@ use Rattle.ring.specs.Fail.{crashed_by, lose_refusal, lost_at, Loses}
 use Rattle.ring.specs.Gather.{Gathers}
 use Rattle.ring.specs.History.{Accepted, no_broadcast, broadcast_on, crashed_on, Told}
 use Rattle.ring.specs.Receive.{receive_refusal, received, Receives}
-use Rattle.ring.specs.Start.{started}
+use Rattle.ring.specs.Start.{new_node, started}
 use Rattle.ring.specs.Step.{ByPhase, ByCause, stepper_refusal, Steps}
 use Rattle.ring.specs.declared.ring.Ring.{Ring}
 use Rattle.ring.specs.declared.step.Step.{Step}
 use Rattle.ring.specs.declared.step.Step.TheVariants.{Acknowledged, Closed, Proposed, Settled}
-use Rattle.ring.proofs.BlankRows.{same_everywhere}
 use Rattle.ring.proofs.Causes.{refuse_none, first_none, either_way, tables_fit, living}
+use Rattle.ring.proofs.NodesKept.{crashed_kept, crashed_here, crashed_elsewhere, nobody_crashed}
 
 -- ---- calls that neither broadcast nor crash
 
--- the part of a world that only broadcasts and crashes change, and the size of its ring
+-- the part of a world that only broadcasts and crashes change, the size of its ring, and how many nodes that keeps
 record Ledger : Type 0 where
   pub size : Option RingSize
   pub messages : ℕ
   pub broadcasters : List ℕ
-  pub crashed : List Bool
+  pub nodes : ℕ
+  pub crashed : ℕ → Bool
   pub book : List Command
 
--- of a world
-abbrev ledger : World → Ledger
-ledger w = record {
+-- of a world, if it has so many nodes and these have crashed
+abbrev ledger_with : World → ℕ → (ℕ → Bool) → Ledger
+ledger_with w nodes crashed = record {
   size = w.ring.size;
   messages = w.ring.messages;
   broadcasters = w.ring.broadcasters;
-  crashed = w.ring.crashed;
+  nodes = nodes;
+  crashed = crashed;
   book = w.book;
 }
+
+-- of a world
+abbrev ledger : World → Ledger
+ledger w = ledger_with w (length w.ring.nodes) (has_crashed w.ring)
+
+-- another row of a node leaves it
+row_leaves : (w : World) (node : ℕ) (row : Row) → ledger (with_ring w (with_row node row w.ring)) ≡ ledger w
+row_leaves w node row = ap₂ (ledger_with w) (length-set w.ring.nodes node _) (crashed_kept w.ring node row)
 
 -- a call leaves it, if the world that it makes where nothing refuses it has the same
 call_leaves : (o : Option Refusal) (changed w v : World) → v ≡ unless o changed w → ledger changed ≡ ledger w
@@ -59,7 +70,7 @@ call_leaves o changed w v h e = either_way (λ (x : World). ledger x ≡ ledger 
 
 -- a receipt does
 receipt_leaves : (w : World) (place : ℕ) (r : Result (Unit {0}) Refusal) (v : World) → Receives w place r v → ledger v ≡ ledger w
-receipt_leaves w place r v h = call_leaves (receive_refusal w place) (received w place) w v h.1 refl
+receipt_leaves w place r v h = call_leaves (receive_refusal w place) (received w place) w v h.1 (row_leaves w _ _)
 
 -- and a loss
 loss_leaves : (w : World) (place : ℕ) (r : Result (Unit {0}) Refusal) (v : World) → Loses w place r v → ledger v ≡ ledger w
@@ -68,15 +79,15 @@ loss_leaves w place r v h = call_leaves (lose_refusal w place) (lost_at w place)
 module _ (K : Kind) (w : World) (M : Meaning) (node : ℕ) (v : World) (N : Meaning) where
   -- and the step of a gathering node
   gathering_leaves : (r : Result Step Refusal) → Gathers K.conflicts w node r v → ledger v ≡ ledger w
-  gathering_leaves (Ok Acknowledged) h = ap ledger h.2
-  gathering_leaves (Ok (Closed a b)) h = ap ledger h.3
+  gathering_leaves (Ok Acknowledged) h = ap ledger h.2 ∙ row_leaves w node _
+  gathering_leaves (Ok (Closed a b)) h = ap ledger h.3 ∙ row_leaves w node _
   gathering_leaves (Ok Proposed) h = absurd h
   gathering_leaves (Ok Settled) h = absurd h
   gathering_leaves (Err e) h = ap ledger h.1
 
   -- and a proposal
   proposing_leaves : (r : Result Step Refusal) → Proposing w M node r v N → ledger v ≡ ledger w
-  proposing_leaves (Ok Proposed) h = ap ledger h.2
+  proposing_leaves (Ok Proposed) h = ap ledger h.2 ∙ row_leaves w node _
   proposing_leaves (Ok Acknowledged) h = absurd h
   proposing_leaves (Ok (Closed a b)) h = absurd h
   proposing_leaves (Ok Settled) h = absurd h
@@ -89,7 +100,7 @@ module _ (K : Kind) (w : World) (M : Meaning) (node : ℕ) (v : World) (N : Mean
   phase_leaves Closing false r h = proposing_leaves r h
   phase_leaves Closing true r h =
       let decision = decision_for w M node in
-      call_leaves (settle_refusal decision) (settled_by w node (decided_of decision)) w v h.1 refl
+      call_leaves (settle_refusal decision) (settled_by w node (decided_of decision)) w v h.1 (row_leaves w node _)
 
   -- and one that is turned down before its phase matters
   cause_leaves : (o : Option Refusal) (r : Result Step Refusal) → ByCause o K w M node r v N → ledger v ≡ ledger w
@@ -120,26 +131,26 @@ refused_call (Some _) x e changed same v r h = h
 record Traced (z : RingSize) (l : Ledger) (bs : List Accepted) (cs : List ℕ) : Type 0 where
   pub size : l.size ≡ Some z
   pub broadcasters_length : length l.broadcasters ≡ 64
-  pub crashed_length : length l.crashed ≡ 7
+  pub nodes_length : l.nodes ≡ 7
   pub messages : l.messages ≡ length bs
   pub answered : (m : ℕ) → m < l.messages → (get_or bs m no_broadcast).answered ≡ m
   pub node : (m : ℕ) → m < l.messages → (get_or bs m no_broadcast).node ≡ get_or l.broadcasters m 0
   pub command : (m : ℕ) → m < l.messages → (get_or bs m no_broadcast).command ≡ command_of l.book m
-  pub crashed : (r : ℕ) → Mem r cs → get_or l.crashed r false ≡ true
-  pub alive : (r : ℕ) → (Mem r cs → ⊥) → get_or l.crashed r false ≡ false
+  pub crashed : (r : ℕ) → Mem r cs → l.crashed r ≡ true
+  pub alive : (r : ℕ) → (Mem r cs → ⊥) → l.crashed r ≡ false
 
 -- nothing was accepted at the start
 start_traced : (z : RingSize) (u : World) → Traced z (ledger (started z u)) [] []
 start_traced z u = record {
   size = refl;
   broadcasters_length = length-replicate {A = ℕ} 64 0;
-  crashed_length = length-replicate 7 false;
+  nodes_length = length-replicate 7 new_node;
   messages = refl;
   answered = λ m l. absurd (omega (arith, l));
   node = λ m l. absurd (omega (arith, l));
   command = λ m l. absurd (omega (arith, l));
   crashed = λ r h. absurd h;
-  alive = λ r h. same_everywhere 7 r false;
+  alive = λ r h. nobody_crashed r;
 }
 
 -- what holds of each of the broadcasts and of one more holds of each after it is added
@@ -166,7 +177,7 @@ module _ {z : RingSize} (w : World) {bs : List Accepted} {cs : List ℕ} (t : Tr
       record {
         size = t.size;
         broadcasters_length = length-set w.ring.broadcasters now node ∙ t.broadcasters_length;
-        crashed_length = t.crashed_length;
+        nodes_length = t.nodes_length;
         messages = omega (arith, length_push bs new, t.messages);
         answered = each_push (λ i b. b.answered ≡ i) bs new now t.messages is t.answered;
         node = each_push (λ i b. b.node ≡ get_or (set w.ring.broadcasters now node) i 0) bs new now t.messages
@@ -184,25 +195,24 @@ module _ {z : RingSize} (w : World) {bs : List Accepted} {cs : List ℕ} (t : Tr
       → Traced z (ledger (with_ring w (crashed_by w.ring node))) bs (cs ++ node ∷ [])
   crash_traced node h =
       let here = (living z w.ring node t.size h).in_ring in
-      let before = w.ring.crashed in
       record {
         size = t.size;
         broadcasters_length = t.broadcasters_length;
-        crashed_length = length-set before node true ∙ t.crashed_length;
+        nodes_length = length-set w.ring.nodes node _ ∙ t.nodes_length;
         messages = t.messages;
         answered = t.answered;
         node = t.node;
         command = t.command;
         crashed = λ r on. elim (cases_eq r node) [
-          | inl e ↦ ap (λ (x : ℕ). get_or (set before node true) x false) e
-              ∙ get_or-set_same before node true false (omega (arith, here, t.crashed_length, z.high))
-          | inr d ↦ get_or-set_other before node r true false d ∙ t.crashed r (elim (mem_cases r cs (node ∷ []) on) [
+          | inl e ↦ ap (has_crashed (crashed_by w.ring node)) e
+              ∙ crashed_here w.ring node (omega (arith, here, t.nodes_length, z.high))
+          | inr d ↦ crashed_elsewhere w.ring node r d ∙ t.crashed r (elim (mem_cases r cs (node ∷ []) on) [
             | inl k ↦ k
             | inr (inl e) ↦ absurd (d (sym e))
             | inr (inr k) ↦ absurd k
           ])
         ];
-        alive = λ r off. get_or-set_other before node r true false (λ e. off (mem_right r cs (node ∷ []) (inl (sym e))))
+        alive = λ r off. crashed_elsewhere w.ring node r (λ e. off (mem_right r cs (node ∷ []) (inl (sym e))))
             ∙ t.alive r (λ on. off (mem_left r cs (node ∷ []) on));
       }
 

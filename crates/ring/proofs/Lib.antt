@@ -15,6 +15,7 @@ pub mod HearingJoined
 pub mod HistoryTold
 pub mod KeptCount
 pub mod Membership
+pub mod NodesKept
 pub mod Plays
 pub mod PromisesKept
 pub mod ProposalJoined

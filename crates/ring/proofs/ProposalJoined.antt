@@ -31,6 +31,7 @@ use Rattle.ring.proofs.Changing.{quorum_is, has_row, fine_changed, fine_row, oth
 use Rattle.ring.proofs.ChooserSeen.{appended_fine, hands_in}
 use Rattle.ring.proofs.KeptCount.{count_with, sender_other, kept_count}
 use Rattle.ring.proofs.Membership.{set_minus, minus_small, those_set}
+use Rattle.ring.proofs.NodesKept.{lives_kept}
 use Rattle.ring.proofs.Seeing.{seen_node, check_from, size_of, Apart, RowFine, Joined}
 
 -- ---- checks are counted by their senders
@@ -142,7 +143,7 @@ module _ {K : Kind} {z : RingSize} {need : ℕ} {low : 1 ≤ need} {high : need 
             alive = lives.alive;
             letters = λ i l. refl;
             book = record { messages = refl; conflict = refl; broadcaster = refl };
-            live = refl;
+            live = lives_kept w.ring node (with_proposed row);
           };
           closing = ap (λ (phase : Phase). not (is_gathering phase)) closing;
           not_yet = not_yet;
@@ -155,8 +156,8 @@ module _ {K : Kind} {z : RingSize} {need : ℕ} {low : 1 ≤ need} {high : need 
           hands_in = hands_in j.chooser row.stage node (proposed_sets quorum row) lives.in_ring new appended sound
               K w (proposed_by w node) low high _ _ (majority_seen enough) (rest_seen enough);
           becomes = record {
-            here = row_seen w.sheets w.ring.nodes node (with_proposed row) (has_row f node lives.in_ring);
-            others = λ x l d. other_seen w.sheets w.ring.nodes node (with_proposed row) x d;
+            here = row_seen w.sheets w.ring node (with_proposed row) (has_row f node lives.in_ring);
+            others = λ x l d. other_seen w.sheets w.ring node (with_proposed row) x d;
           };
           silent = refl;
         }));

@@ -26,6 +26,7 @@ use Rattle.ring.specs.Receive.{must_relay, cannot_relay, receive_refusal, relaye
 use Rattle.ring.proofs.Causes.{refuse_none, first_none, Travels, travels}
 use Rattle.ring.proofs.Changing.{nodes_are, has_row, fine_changed, other_seen, row_seen, sheet_small}
 use Rattle.ring.proofs.Effects.{same_chooser}
+use Rattle.ring.proofs.NodesKept.{lives_kept}
 use Rattle.ring.proofs.Seeing.{seen, seen_letter, seen_row, seen_node, shown, RowFine, Fine, size_of, Joined}
 use Rattle.ring.proofs.Sending.{sent_length, sent_before, sent_now}
 use Rattle.ring.proofs.SheetsGrow.{grown, grown_length, grown_elsewhere}
@@ -157,7 +158,7 @@ module _ {K : Kind} {z : RingSize} {need : ℕ} {low : 1 ≤ need} {high : need 
     };
     book = record { messages = refl; conflict = refl; broadcaster = refl };
     chooser = same_chooser K w (received w place) M;
-    live = refl;
+    live = lives_kept w.ring letter.receiver (row_after w place);
   }
 
   -- a letter that is not to be relayed sends none
@@ -204,9 +205,9 @@ module _ {K : Kind} {z : RingSize} {need : ℕ} {low : 1 ≤ need} {high : need 
   pub becomes : (N : Seen-node) → taker_after w place ≡ N
       → Becomes ring_size (seen K w M) (seen K (received w place) M) letter.receiver N
   becomes N e = record {
-    here = row_seen sheets_after w.ring.nodes letter.receiver (row_after w place)
+    here = row_seen sheets_after w.ring letter.receiver (row_after w place)
         (has_row j.fine letter.receiver unspoilt.receiver_in) ∙ e;
-    others = λ x l d. other_seen sheets_after w.ring.nodes letter.receiver (row_after w place) x d
+    others = λ x l d. other_seen sheets_after w.ring letter.receiver (row_after w place) x d
         ∙ ap (seen_row (row_of w x)) (elsewhere x l d);
   }
 

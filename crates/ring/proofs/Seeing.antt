@@ -137,7 +137,6 @@ pub record ChooserFine (z : RingSize) (need : ℕ) (M : Meaning) : Type 0 where
 pub record Fine (K : Kind) (z : RingSize) (w : World) : Type 0 where
   pub size : w.ring.size ≡ Some z
   pub nodes_length : length w.ring.nodes ≡ 7
-  pub crashed_length : length w.ring.crashed ≡ 7
   pub broadcasters_length : length w.ring.broadcasters ≡ 64
   pub rows : (r : ℕ) → r < z.n → RowFine z (row_of w r)
   pub tables : wrong_sizes (length w.tray) (length w.book) (length w.sheets) ≡ false

@@ -32,6 +32,7 @@ use Rattle.ring.proofs.Causes.{not_some, either_way, tables_of, Lives}
 use Rattle.ring.proofs.Changing.{has_row, fine_changed, other_seen, row_seen, sheet_small}
 use Rattle.ring.proofs.Effects.{same_chooser}
 use Rattle.ring.proofs.Membership.{neither, known_small, set_or}
+use Rattle.ring.proofs.NodesKept.{lives_kept}
 use Rattle.ring.proofs.Seeing.{seen, seen_node, seen_row, shown, left_of, right_of, stands, Joined}
 use Rattle.ring.proofs.SheetsGrow.{grown, grown_length, grown_here, grown_elsewhere}
 
@@ -174,15 +175,15 @@ module _ {K : Kind} {z : RingSize} {need : ℕ} {low : 1 ≤ need} {high : need 
               alive = lives.alive;
               letters = λ i l. refl;
               book = record { messages = refl; conflict = refl; broadcaster = refl };
-              live = refl;
+              live = lives_kept w.ring node (settled_row decided row);
             };
             closing = ap (λ (phase : Phase). not (is_gathering phase)) closing;
             proposed = proposed;
             decided = ap stands decision;
             becomes = record {
-              here = row_seen written w.ring.nodes node (settled_row decided row) (has_row f node lives.in_ring)
+              here = row_seen written w.ring node (settled_row decided row) (has_row f node lives.in_ring)
                   ∙ node_seen;
-              others = λ x l d. other_seen written w.ring.nodes node (settled_row decided row) x d
+              others = λ x l d. other_seen written w.ring node (settled_row decided row) x d
                   ∙ ap (seen_row (row_of w x)) (elsewhere x l d);
             };
             chooser = same_chooser K w (settled_by w node decided) M;

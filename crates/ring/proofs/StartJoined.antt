@@ -16,15 +16,17 @@ use Rattle.protocol.proofs.Running.{start_ok}
 use Rattle.rows.specs.Conflicts.{no_command}
 use Rattle.rows.specs.Letters.{no_letter}
 use Rattle.rows.specs.Masks.{has}
-use Rattle.rows.specs.Rows.{no_row, new_row}
+use Rattle.rows.specs.Rows.{new_row}
 use Rattle.rows.specs.declared.row.Row.{Row}
 use Rattle.rows.specs.declared.size.RingSize.{RingSize}
-use Rattle.ring.specs.World.{World, wrong_sizes, table_refusal}
-use Rattle.ring.specs.Start.{is_used, in_use, start_refusal, started}
-use Rattle.ring.proofs.BlankRows.{same_everywhere, begins_fine, beginning, begins_seen}
+use Rattle.ring.specs.World.{World, no_node, wrong_sizes, table_refusal}
+use Rattle.ring.specs.Start.{new_node, is_used, in_use, start_refusal, started}
+use Rattle.ring.specs.declared.ring.Node.{Node}
+use Rattle.ring.proofs.BlankRows.{begins_fine, beginning, begins_seen}
 use Rattle.ring.proofs.BroadcastJoined.{conflict_both_sides, conflict_not_itself}
 use Rattle.ring.proofs.Causes.{refuse_none, first_none, tables_fit}
 use Rattle.ring.proofs.Membership.{has_none, set_none}
+use Rattle.ring.proofs.NodesKept.{nobody_crashed}
 use Rattle.ring.proofs.Seeing.{stands, left_of, right_of, seen_node, Listed, RowFine, Joined}
 
 -- ---- a new row
@@ -36,8 +38,8 @@ new_row_seen sheets r =
     ∙ ap₂ (λ (S : Set) (k : ℕ). beginning 1 S S (take k (drop (64 * r) sheets))) set_none (ones-ones 0)
 
 -- every node of the ring has a new row
-row_is_new : (z : RingSize) (r : ℕ) → r < z.n → get_or (replicate 7 new_row) r no_row ≡ new_row
-row_is_new z r l = get_or-replicate 7 r new_row no_row (omega (arith, l, z.high))
+row_is_new : (z : RingSize) (r : ℕ) → r < z.n → (get_or (replicate 7 new_node) r no_node).row ≡ new_row
+row_is_new z r l = ap (λ (n : Node). n.row) (get_or-replicate 7 r new_node no_node (omega (arith, l, z.high)))
 
 -- ---- a chooser that nobody asked
 
@@ -86,7 +88,7 @@ module _ (z : RingSize) (w : World) (M : Meaning) (h : start_refusal z w M ≡ N
         messages = refl;
         sent = refl;
         nodes = λ r l. ap (seen_node (replicate (length w.sheets) 0) r) (row_is_new z r l) ∙ new_row_seen _ r;
-        live = λ r l. ap not (same_everywhere 7 r false);
+        live = λ r l. ap not (nobody_crashed r);
         proposers = λ j r. ap (has_proposed r) (no_proposals j);
         decided = λ j. ap stands (no_decision j);
         nonconflicting = λ m. ap (λ (o : Option (ℕ × ℕ)). has (left_of o) m) (no_decision 0) ∙ has_none m;
@@ -96,8 +98,7 @@ module _ (z : RingSize) (w : World) (M : Meaning) (h : start_refusal z w M ≡ N
       });
       fine = record {
         size = refl;
-        nodes_length = length-replicate 7 new_row;
-        crashed_length = length-replicate 7 false;
+        nodes_length = length-replicate 7 new_node;
         broadcasters_length = length-replicate {A = ℕ} 64 0;
         rows = λ r l. subst (λ (row : Row). RowFine z row) (sym (row_is_new z r l)) (begins_fine z 1 0 0);
         tables = ap₂ (λ (tray : ℕ) (others : ℕ × ℕ). wrong_sizes tray others.0 others.1)

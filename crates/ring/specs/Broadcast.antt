@@ -25,7 +25,6 @@ broadcast_ring r node = record {
   messages = r.messages + 1;
   broadcasters = slice_set r.broadcasters r.messages node;
   used = r.used + nodes_of r.size;
-  crashed = r.crashed;
   nodes = r.nodes;
 }
 

@@ -4,18 +4,17 @@ use Rattle.rows.specs.Causes.{refuse, first, outcome, unless}
 use Rattle.rows.specs.Letters.{lost, marked}
 use Rattle.rows.specs.declared.refusal.Refusal.{Refusal}
 use Rattle.rows.specs.declared.refusal.Refusal.TheVariants.{NobodyCrashed}
-use Rattle.ring.specs.World.{World, has_crashed, letter_at, live_refusal, letter_refusal}
+use Rattle.ring.specs.World.{World, node_of, has_crashed, letter_at, live_refusal, letter_refusal}
 use Rattle.ring.specs.declared.ring.Ring.{Ring}
 
--- the ring with the node crashed
+-- the ring with the node crashed, which keeps its row
 abbrev pub crashed_by : Ring → ℕ → Ring
 crashed_by r node = record {
   size = r.size;
   messages = r.messages;
   broadcasters = r.broadcasters;
   used = r.used;
-  crashed = slice_set r.crashed node true;
-  nodes = r.nodes;
+  nodes = slice_set r.nodes node (record { row = (node_of r node).row; crashed = true });
 }
 
 -- A crash, refused by 7, 8, 9: its answer, and the ring after it. It is lent no table.

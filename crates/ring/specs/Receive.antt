@@ -1,19 +1,19 @@
 -- What a receipt makes of a world.
 use Rattle.std.specs.Prelude.{◌≡◌, ℕ, ◌+◌, Bool, true, false, cond, ◌&&◌, List, None, Ok, Err, Option, Result, nat_lt}
-use Rattle.std.specs.Prelude.{slice_index_or, slice_set}
+use Rattle.std.specs.Prelude.{slice_set}
 use Rattle.rows.specs.Causes.{refuse, first, outcome, unless}
 use Rattle.rows.specs.Letters.{data_letter, taken, marked, letter_of, sent, no_room}
-use Rattle.rows.specs.Rows.{no_row}
 use Rattle.rows.specs.Receipts.{relays, taken_row, taken_sheets}
 use Rattle.rows.specs.declared.letter.Letter.{Letter}
 use Rattle.rows.specs.declared.refusal.Refusal.{Refusal}
 use Rattle.rows.specs.declared.refusal.Refusal.TheVariants.{NodeCrashed, LaterStage, TrayFull}
-use Rattle.ring.specs.World.{World, nodes_of, quorum_of, row_of, has_crashed, letter_at, with_row, with_used, letter_refusal}
+use Rattle.ring.specs.World.{World, nodes_of, quorum_of, node_of, row_of, has_crashed, letter_at, with_row, with_used}
+use Rattle.ring.specs.World.{letter_refusal}
 use Rattle.ring.specs.declared.ring.Ring.{Ring}
 
 -- whether the receiver of the letter has to relay it
 abbrev pub must_relay : Ring → Letter → Bool
-must_relay r l = relays r.broadcasters (slice_index_or r.nodes l.receiver no_row) l
+must_relay r l = relays r.broadcasters (node_of r l.receiver).row l
 
 -- it has to, and there are too few places
 abbrev pub cannot_relay : Ring → List Letter → Letter → Bool

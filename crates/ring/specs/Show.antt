@@ -1,10 +1,9 @@
 -- What is told of a node: its sheet, its stage, and whether it lives.
 use Rattle.std.specs.Prelude.{◌≡◌, ℕ, ◌*◌, Bool, not, List, take, drop, Some, None, Ok, Err, Option, Result, count_ones}
-use Rattle.std.specs.Prelude.{slice_index_or}
 use Rattle.rows.specs.Causes.{first, answer}
-use Rattle.rows.specs.Rows.{no_row, on_sheet}
+use Rattle.rows.specs.Rows.{on_sheet}
 use Rattle.rows.specs.declared.refusal.Refusal.{Refusal}
-use Rattle.ring.specs.World.{World, row_of, has_crashed, table_refusal, node_refusal}
+use Rattle.ring.specs.World.{World, node_of, row_of, has_crashed, table_refusal, node_refusal}
 use Rattle.ring.specs.declared.ring.Ring.{Ring}
 
 -- the numbers of the messages that a node delivered, in order: the used part of its 64 bytes
@@ -22,7 +21,7 @@ Shows f w node (Err e) = show_refusal w node ≡ Some e
 
 -- the stage of a node; 7, 8
 abbrev pub stage_answer : Ring → ℕ → Result ℕ Refusal
-stage_answer r node = answer (node_refusal r node) (slice_index_or r.nodes node no_row).stage
+stage_answer r node = answer (node_refusal r node) (node_of r node).row.stage
 
 -- whether a node lives; 7, 8
 abbrev pub live_answer : Ring → ℕ → Result Bool Refusal

@@ -11,7 +11,12 @@ use Rattle.rows.specs.declared.refusal.Refusal.{Refusal}
 use Rattle.rows.specs.declared.refusal.Refusal.TheVariants.{NeedAboveQuorum, ChooserInUse}
 use Rattle.rows.specs.declared.size.RingSize.{RingSize}
 use Rattle.ring.specs.World.{World, table_refusal}
+use Rattle.ring.specs.declared.ring.Node.{Node}
 use Rattle.ring.specs.declared.ring.Ring.{Ring}
+
+-- a node that lives, at the start
+abbrev pub new_node : Node
+new_node = record { row = new_row; crashed = false }
 
 -- a ring without messages, letters and crashes
 abbrev pub empty_ring : Option RingSize → Ring
@@ -20,8 +25,7 @@ empty_ring size = record {
   messages = 0;
   broadcasters = replicate 64 0;
   used = 0;
-  crashed = replicate 7 false;
-  nodes = replicate 7 new_row;
+  nodes = replicate 7 new_node;
 }
 
 -- never started

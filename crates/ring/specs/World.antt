@@ -11,6 +11,7 @@ use Rattle.rows.specs.declared.refusal.Refusal.TheVariants.{WrongTableSize, NotS
 use Rattle.rows.specs.declared.refusal.Refusal.TheVariants.{NotTravelling, SpoiltLetter}
 use Rattle.rows.specs.declared.row.Row.{Row}
 use Rattle.rows.specs.declared.size.RingSize.{RingSize}
+use Rattle.ring.specs.declared.ring.Node.{Node}
 use Rattle.ring.specs.declared.ring.Ring.{Ring}
 use Rattle.ring.specs.declared.tables.Tables.{Tables}
 use Rattle.ring.specs.declared.tables.TablesMut.{TablesMut}
@@ -55,13 +56,21 @@ abbrev pub unstarted : Option RingSize → Bool
 unstarted None = true
 unstarted (Some z) = false
 
+-- what stands beyond the last node of a ring
+abbrev pub no_node : Node
+no_node = record { row = no_row; crashed = false }
+
+-- what a ring keeps of a node
+abbrev pub node_of : Ring → ℕ → Node
+node_of r node = slice_index_or r.nodes node no_node
+
 -- the row of a node
 abbrev pub row_of : World → ℕ → Row
-row_of w node = slice_index_or w.ring.nodes node no_row
+row_of w node = (node_of w.ring node).row
 
 -- whether a node has crashed
 abbrev pub has_crashed : Ring → ℕ → Bool
-has_crashed r node = slice_index_or r.crashed node false
+has_crashed r node = (node_of r node).crashed
 
 -- the letter at a place
 abbrev pub letter_at : World → ℕ → Letter
@@ -69,15 +78,14 @@ letter_at w place = slice_index_or w.tray place no_letter
 
 -- ---- setters
 
--- the ring with another row of a node
+-- the ring with another row of a node, which has crashed if it had
 abbrev pub with_row : ℕ → Row → Ring → Ring
 with_row node row r = record {
   size = r.size;
   messages = r.messages;
   broadcasters = r.broadcasters;
   used = r.used;
-  crashed = r.crashed;
-  nodes = slice_set r.nodes node row;
+  nodes = slice_set r.nodes node (record { row = row; crashed = has_crashed r node });
 }
 
 -- the ring with so many places of the tray used
@@ -87,7 +95,6 @@ with_used used r = record {
   messages = r.messages;
   broadcasters = r.broadcasters;
   used = used;
-  crashed = r.crashed;
   nodes = r.nodes;
 }
 

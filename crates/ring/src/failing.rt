@@ -12,7 +12,7 @@ impl Ring {
         ensures { Crashes self.old node result self.new }
     {
         self.with_live_node(node)?;
-        self.crashed[node as usize] = true;
+        self.nodes[node as usize].crashed = true;
         Ok(())
     }
 
@@ -26,7 +26,9 @@ impl Ring {
             (world_of self.new tables.new) }
     {
         let (_, letter) = self.examine(tables.view(), place)?;
-        if !self.crashed[letter.sender as usize] && !self.crashed[letter.receiver as usize] {
+        if !self.nodes[letter.sender as usize].crashed
+            && !self.nodes[letter.receiver as usize].crashed
+        {
             return Err(Refusal::NobodyCrashed);
         }
         tables.tray[place].mark = LOST;

@@ -29,7 +29,7 @@ impl Ring {
             (world_of self.old tables.old) node result
             (world_of self.new tables.new) }
     {
-        let row = self.nodes[node as usize];
+        let row = self.nodes[node as usize].row;
         let undelivered = row.undelivered();
         if undelivered & !row.pending == 0 {
             return Err(Refusal::NothingNew);
@@ -46,7 +46,7 @@ impl Ring {
             None => {
                 post(tables.tray, self.used, size.n, acknowledgement)?;
                 self.used += size.n as usize;
-                self.nodes[node as usize].acknowledge();
+                self.nodes[node as usize].row.acknowledge();
                 Ok(Step::Acknowledged)
             }
             Some((a, b)) => {
@@ -57,7 +57,7 @@ impl Ring {
                 };
                 post(tables.tray, self.used, size.n, check)?;
                 self.used += size.n as usize;
-                self.nodes[node as usize].close();
+                self.nodes[node as usize].row.close();
                 Ok(Step::Closed(a, b))
             }
         }

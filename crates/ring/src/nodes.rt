@@ -21,7 +21,7 @@ impl Ring {
         ensures { Alive self.now node result }
     {
         let size = self.with_node(node)?;
-        if self.crashed[node as usize] {
+        if self.nodes[node as usize].crashed {
             return Err(Refusal::NodeCrashed);
         }
         Ok(size)

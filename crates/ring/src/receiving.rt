@@ -41,7 +41,7 @@ impl Ring {
         requires inside { letter.receiver < size.n }
         ensures { Relays self.old tray.old letter result self.new tray.new }
     {
-        let row = self.nodes[letter.receiver as usize];
+        let row = self.nodes[letter.receiver as usize].row;
         if !row.must_relay(&self.broadcasters, letter) {
             return Ok(());
         }
@@ -69,10 +69,10 @@ impl Ring {
     {
         let (size, letter) = self.examine(tables.view(), place)?;
         let receiver = letter.receiver as usize;
-        if self.crashed[receiver] {
+        if self.nodes[receiver].crashed {
             return Err(Refusal::NodeCrashed);
         }
-        if letter.stage > self.nodes[receiver].stage {
+        if letter.stage > self.nodes[receiver].row.stage {
             return Err(Refusal::LaterStage);
         }
         self.relay(size, tables.tray, letter)?;
@@ -80,7 +80,9 @@ impl Ring {
             mark: TAKEN,
             ..letter
         };
-        self.nodes[receiver].take(size, letter, tables.sheets, letter.receiver);
+        self.nodes[receiver]
+            .row
+            .take(size, letter, tables.sheets, letter.receiver);
         Ok(())
     }
 }

@@ -4,6 +4,13 @@ ghost use Rattle.ring.specs.Start.{idle_ring, new_ring};
 use rows::row::Row;
 use rows::size::RingSize;
 
+// What a ring keeps of one of its nodes: its row, and whether it has crashed.
+#[derive(Clone, Copy)]
+pub(crate) struct Node {
+    pub(crate) row: Row,
+    pub(crate) crashed: bool,
+}
+
 // A ring: what its calls keep from one to the next. The letters, the commands and the sheets stand in the tables that
 // the caller lends to each call.
 #[derive(Drop)]
@@ -16,9 +23,7 @@ pub struct Ring {
     pub(crate) broadcasters: [u8; 64],
     // how many places of the tray are used
     pub(crate) used: usize,
-    // which nodes have crashed
-    pub(crate) crashed: [bool; 7],
-    pub(crate) nodes: [Row; 7],
+    pub(crate) nodes: [Node; 7],
 }
 
 impl Ring {
@@ -31,8 +36,10 @@ impl Ring {
             messages: 0,
             broadcasters: [0; 64],
             used: 0,
-            crashed: [false; 7],
-            nodes: [Row::new(); 7],
+            nodes: [Node {
+                row: Row::new(),
+                crashed: false,
+            }; 7],
         }
     }
 

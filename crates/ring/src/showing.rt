@@ -27,6 +27,6 @@ impl Ring {
     {
         tables.check_sizes()?;
         self.with_node(node)?;
-        Ok(used_part(&self.nodes[node as usize], tables.sheets, node))
+        Ok(used_part(&self.nodes[node as usize].row, tables.sheets, node))
     }
 }
