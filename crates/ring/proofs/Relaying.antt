@@ -38,17 +38,17 @@ module _ (r : Ring) (tray : List Letter) (l : Letter) where
     seen f = ap (λ (o : Option RingSize). f (nodes_of o)) started
 
     -- without room for the copies nothing changes
-    pub relay_refused : (a : Result (Unit {0}) Refusal) (t : List Letter) → a ≡ Err TrayFull → t ≡ tray →
-        no_room tray r.used z.n ≡ true → Relays r tray l a r t
-    relay_refused a t e f full =
-        subst (λ (b : Result (Unit {0}) Refusal). Relays r tray l b r t) (sym e)
-        (and_from _ _ due (seen (no_room tray r.used) ∙ full), refl, refl, f)
+    pub relay_refused : (a : Result (Unit {0}) Refusal) (s : Ring) (t : List Letter) → a ≡ Err TrayFull → s ≡ r → t ≡ tray →
+        no_room tray r.used z.n ≡ true → Relays r tray l a s t
+    relay_refused a s t e same f full =
+        subst (λ (b : Result (Unit {0}) Refusal). Relays r tray l b s t) (sym e)
+        (and_from _ _ due (seen (no_room tray r.used) ∙ full), refl, same, f)
 
     -- with room they are sent
-    pub relay_done : (t : List Letter) → t ≡ copies z.n → no_room tray r.used z.n ≡ false →
-        Relays r tray l (Ok tt) (with_used (r.used + z.n) r) t
-    relay_done t e room = (
+    pub relay_done : (s : Ring) (t : List Letter) → s ≡ with_used (r.used + z.n) r → t ≡ copies z.n →
+        no_room tray r.used z.n ≡ false → Relays r tray l (Ok tt) s t
+    relay_done s t now e room = (
       and_right _ _ (seen (no_room tray r.used) ∙ room),
-      sym (seen (λ n. with_used (r.used + n) r)) ∙ ap (ring_after (nodes_of r.size)) (sym due),
+      now ∙ sym (seen (λ n. with_used (r.used + n) r)) ∙ ap (ring_after (nodes_of r.size)) (sym due),
       e ∙ sym (seen copies) ∙ ap (tray_after (nodes_of r.size)) (sym due),
     )

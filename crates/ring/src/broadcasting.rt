@@ -7,7 +7,6 @@ use record::command::Command;
 use record::record::Record;
 use rows::letter::{DATA, Letter, TRAVELLING};
 use rows::refusal::Refusal;
-use rows::sending::post;
 
 const MOST_MESSAGES: u8 = 64;
 
@@ -42,11 +41,10 @@ impl Ring {
             stage: 0,
             set: 1u64 << message,
         };
-        post(tables.tray, self.used, size.n, letter)?;
-        tables.book[message as usize] = command;
-        self.broadcasters[message as usize] = node;
+        self.send(size, tables.tray, letter)?;
+        tables.book[usize::from(message)] = command;
+        self.broadcasters[usize::from(message)] = node;
         self.messages = message + 1;
-        self.used += size.n as usize;
         Ok(message)
     }
 }

@@ -28,9 +28,9 @@ impl Ring {
             (world_of self.new tables.new)
             (C.Chooser.meaning chooser.new) }
     {
-        let mut row = self.nodes[node as usize].row;
-        row.propose(size, chooser, node)?;
-        self.nodes[node as usize].row = row;
+        self.nodes[usize::from(node)]
+            .row
+            .propose(size, chooser, node)?;
         Ok(Step::Proposed)
     }
 
@@ -50,9 +50,9 @@ impl Ring {
             (world_of self.new tables.new)
             (C.Chooser.meaning chooser.new) }
     {
-        let mut row = self.nodes[node as usize].row;
-        row.settle(chooser, tables.sheets, node)?;
-        self.nodes[node as usize].row = row;
+        self.nodes[usize::from(node)]
+            .row
+            .settle(chooser, tables.sheets, node)?;
         Ok(Step::Settled)
     }
 }

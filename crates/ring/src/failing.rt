@@ -12,7 +12,7 @@ impl Ring {
         ensures { Crashes self.old node result self.new }
     {
         self.with_live_node(node)?;
-        self.nodes[node as usize].crashed = true;
+        self.nodes[usize::from(node)].crashed = true;
         Ok(())
     }
 
@@ -26,8 +26,8 @@ impl Ring {
             (world_of self.new tables.new) }
     {
         let (_, letter) = self.examine(tables.view(), place)?;
-        if !self.nodes[letter.sender as usize].crashed
-            && !self.nodes[letter.receiver as usize].crashed
+        if !self.nodes[usize::from(letter.sender)].crashed
+            && !self.nodes[usize::from(letter.receiver)].crashed
         {
             return Err(Refusal::NobodyCrashed);
         }

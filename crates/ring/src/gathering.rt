@@ -9,7 +9,6 @@ use record::record::Record;
 use rows::conflict::find_conflict;
 use rows::letter::{ACKNOWLEDGEMENT, CHECK, Letter, TRAVELLING};
 use rows::refusal::Refusal;
-use rows::sending::post;
 use rows::size::RingSize;
 
 impl Ring {
@@ -29,7 +28,7 @@ impl Ring {
             (world_of self.old tables.old) node result
             (world_of self.new tables.new) }
     {
-        let row = self.nodes[node as usize].row;
+        let row = self.nodes[usize::from(node)].row;
         let undelivered = row.undelivered();
         if undelivered & !row.pending == 0 {
             return Err(Refusal::NothingNew);
@@ -44,9 +43,8 @@ impl Ring {
         };
         match find_conflict::<R>(tables.view().book, undelivered) {
             None => {
-                post(tables.tray, self.used, size.n, acknowledgement)?;
-                self.used += size.n as usize;
-                self.nodes[node as usize].row.acknowledge();
+                self.send(size, tables.tray, acknowledgement)?;
+                self.nodes[usize::from(node)].row.acknowledge();
                 Ok(Step::Acknowledged)
             }
             Some((a, b)) => {
@@ -55,9 +53,8 @@ impl Ring {
                     set: row.pending,
                     ..acknowledgement
                 };
-                post(tables.tray, self.used, size.n, check)?;
-                self.used += size.n as usize;
-                self.nodes[node as usize].row.close();
+                self.send(size, tables.tray, check)?;
+                self.nodes[usize::from(node)].row.close();
                 Ok(Step::Closed(a, b))
             }
         }

@@ -9,6 +9,7 @@ pub mod closing;
 pub mod failing;
 pub mod gathering;
 mod nodes;
+mod posting;
 pub mod questions;
 pub mod receiving;
 pub mod ring;

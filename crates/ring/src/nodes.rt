@@ -21,7 +21,7 @@ impl Ring {
         ensures { Alive self.now node result }
     {
         let size = self.with_node(node)?;
-        if self.nodes[node as usize].crashed {
+        if self.nodes[usize::from(node)].crashed {
             return Err(Refusal::NodeCrashed);
         }
         Ok(size)

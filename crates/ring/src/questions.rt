@@ -10,7 +10,7 @@ impl Ring {
         ensures { result ≡ stage_answer self.now node }
     {
         self.with_node(node)?;
-        Ok(self.nodes[node as usize].row.stage)
+        Ok(self.nodes[usize::from(node)].row.stage)
     }
 
     // Whether a node lives. Refused: 7 never started; 8 no such node.
@@ -18,6 +18,6 @@ impl Ring {
         ensures { result ≡ live_answer self.now node }
     {
         self.with_node(node)?;
-        Ok(!self.nodes[node as usize].crashed)
+        Ok(!self.nodes[usize::from(node)].crashed)
     }
 }

@@ -6,7 +6,6 @@ use crate::ring::Ring;
 use crate::tables::{Tables, TablesMut};
 use rows::letter::{DATA, Letter, TAKEN, TRAVELLING};
 use rows::refusal::Refusal;
-use rows::sending::post;
 use rows::size::RingSize;
 
 impl Ring {
@@ -41,7 +40,7 @@ impl Ring {
         requires inside { letter.receiver < size.n }
         ensures { Relays self.old tray.old letter result self.new tray.new }
     {
-        let row = self.nodes[letter.receiver as usize].row;
+        let row = self.nodes[usize::from(letter.receiver)].row;
         if !row.must_relay(&self.broadcasters, letter) {
             return Ok(());
         }
@@ -53,8 +52,7 @@ impl Ring {
             stage: 0,
             set: letter.set,
         };
-        post(tray, self.used, size.n, copy)?;
-        self.used += size.n as usize;
+        self.send(size, tray, copy)?;
         Ok(())
     }
 
@@ -68,7 +66,7 @@ impl Ring {
             (world_of self.new tables.new) }
     {
         let (size, letter) = self.examine(tables.view(), place)?;
-        let receiver = letter.receiver as usize;
+        let receiver = usize::from(letter.receiver);
         if self.nodes[receiver].crashed {
             return Err(Refusal::NodeCrashed);
         }

@@ -13,7 +13,7 @@ fn used_part<'a>(row: &Row, sheets: &'a [u8], node: u8) -> &'a [u8]
     requires { (length sheets.now ≡ 448) × (node < 7) }
     ensures { result.now ≡ take (count_ones (on_sheet row.now)) (drop (64 * node) sheets.now) }
 {
-    let base = 64 * node as usize;
+    let base = 64 * usize::from(node);
     let len = (row.delivered | row.early).count_ones() as usize;
     &sheets[base..base + len]
 }
@@ -27,6 +27,6 @@ impl Ring {
     {
         tables.check_sizes()?;
         self.with_node(node)?;
-        Ok(used_part(&self.nodes[node as usize].row, tables.sheets, node))
+        Ok(used_part(&self.nodes[usize::from(node)].row, tables.sheets, node))
     }
 }

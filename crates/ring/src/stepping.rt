@@ -32,8 +32,8 @@ impl Ring {
     {
         tables.view().check_sizes()?;
         let size = self.with_live_node(node)?;
-        let phase = self.nodes[node as usize].row.phase;
-        let proposed = self.nodes[node as usize].row.proposed;
+        let phase = self.nodes[usize::from(node)].row.phase;
+        let proposed = self.nodes[usize::from(node)].row.proposed;
         match (phase, proposed) {
             (Phase::Gathering, _) => self.gather::<R>(size, tables, node),
             (Phase::Closing, false) => self.propose(size, tables, chooser, node),
