@@ -28,9 +28,9 @@ pub fn perform<R: Record, C: Chooser>(
             command,
             body: _,
         } => ring.broadcast::<R>(tables, node, command).is_ok(),
-        Entry::Receive { place } => ring.receive(tables, place as usize).is_ok(),
+        Entry::Receive { place } => ring.receive(tables, usize::from(place)).is_ok(),
         Entry::Step { node } => ring.step::<R, C>(tables, chooser, node).is_ok(),
         Entry::Crash { node } => ring.crash(node).is_ok(),
-        Entry::Lose { place } => ring.lose(tables, place as usize).is_ok(),
+        Entry::Lose { place } => ring.lose(tables, usize::from(place)).is_ok(),
     }
 }

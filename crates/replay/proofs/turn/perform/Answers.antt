@@ -19,7 +19,7 @@ pub returns-in-Receive-clause-turn : goal.returns-in-Receive-clause-turn
 returns-in-Receive-clause-turn g c =
     let w : World = world_of c.args.ring.now c.args.tables.now in
     let M : Meaning = g.C.Chooser.meaning c.args.chooser.now in
-    let e : act_of c.args.entry ≡ receive c.in-Receive.place =
+    let e : act_of c.args.entry ≡ receive c.from.result =
     search rules in
     turn_as g.R.Record.kind w _ M _ _ _ (is_ok c.receive.result) _ e (search rules)
     (receives w M _ _ _ c.receive.ensures.receives)
@@ -46,7 +46,7 @@ pub returns-in-Lose-clause-turn : goal.returns-in-Lose-clause-turn
 returns-in-Lose-clause-turn g c =
     let w : World = world_of c.args.ring.now c.args.tables.now in
     let M : Meaning = g.C.Chooser.meaning c.args.chooser.now in
-    let e : act_of c.args.entry ≡ lose c.in-Lose.place =
+    let e : act_of c.args.entry ≡ lose c.from-in-Lose.result =
     search rules in
     turn_as g.R.Record.kind w _ M _ _ _ (is_ok c.lose.result) _ e (search rules)
     (loses w M _ _ _ c.lose.ensures.loses)
