@@ -1,9 +1,11 @@
+pub mod BookTurn
 pub mod Card
 pub mod ClosingBook
 pub mod Coded
 pub mod Command
 pub mod Kind
 pub mod Kitty
+pub mod KittyOrder
 pub mod Pair
 pub mod Posting
 pub mod Rounds

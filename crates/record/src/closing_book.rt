@@ -1,5 +1,6 @@
 ghost use Rattle.std.specs.Prelude.{◌≡◌, ◌∷◌, if◌then◌else◌};
-ghost use Rattle.record.specs.ClosingBook.{turns, closing_kind};
+ghost use Rattle.record.specs.BookTurn.{Turns};
+ghost use Rattle.record.specs.ClosingBook.{closing_kind};
 ghost use Rattle.record.specs.ClosingBookLaws.{closing_laws};
 ghost use Rattle.std.proofs.Common.{rules};
 
@@ -18,11 +19,22 @@ pub struct ClosingBook<B> {
     below: B,
 }
 
-// Whether the command opens or closes the book; no other reaches it.
-fn is_turn(command: Command) -> bool
-    ensures { result ≡ turns command }
+// What a command may turn a book to.
+#[derive(Clone, Copy, PartialEq, Eq)]
+enum Turn {
+    Open,
+    Close,
+}
+
+// The turn that the command asks for; any other command is for the record below.
+fn turn_of(command: Command) -> Option<Turn>
+    ensures { Turns command result }
 {
-    command.verb == OPEN || command.verb == CLOSE
+    match command.verb {
+        OPEN => Some(Turn::Open),
+        CLOSE => Some(Turn::Close),
+        _ => None,
+    }
 }
 
 impl<B: Record> Record for ClosingBook<B> {
@@ -42,29 +54,27 @@ impl<B: Record> Record for ClosingBook<B> {
     }
 
     fn is_lawful(command: Command) -> bool {
-        if is_turn(command) {
-            command.subject == 0 && command.day == 0 && command.amount == 0
-        } else {
-            B::is_lawful(command)
+        match turn_of(command) {
+            Some(_) => command.subject == 0 && command.day == 0 && command.amount == 0,
+            None => B::is_lawful(command),
         }
     }
 
     fn in_conflict(a: Command, b: Command) -> bool {
-        is_turn(a) || is_turn(b) || B::in_conflict(a, b)
+        turn_of(a).is_some() || turn_of(b).is_some() || B::in_conflict(a, b)
     }
 
     fn take(&mut self, command: Command) -> Result<(), Unlawful> {
         if !Self::is_lawful(command) {
             return Err(Unlawful);
         }
-        if is_turn(command) {
-            self.closed = command.verb == CLOSE;
-            return Ok(());
-        }
-        if self.closed {
-            Ok(())
-        } else {
-            self.below.take(command)
+        match turn_of(command) {
+            Some(turn) => {
+                self.closed = turn == Turn::Close;
+                Ok(())
+            }
+            None if self.closed => Ok(()),
+            None => self.below.take(command),
         }
     }
 
