@@ -7,6 +7,7 @@ pub mod Kind
 pub mod Kitty
 pub mod KittyOrder
 pub mod Pair
+pub mod PairSide
 pub mod Posting
 pub mod Rounds
 pub mod Table

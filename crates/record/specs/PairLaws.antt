@@ -1,13 +1,12 @@
 -- The laws of two records side by side, from the laws of each.
-use Rattle.std.specs.Prelude.{◌≡◌, ℕ, ◌+◌, Bool, true, false, cond, not, ◌&&◌, List, ◌++◌, length, Ok, Err, Result, refl}
+use Rattle.std.specs.Prelude.{◌≡◌, ℕ, ◌+◌, Bool, true, false, cond, not, ◌&&◌, List, ◌++◌, length, refl}
 use Rattle.std.proofs.Common.{arith, ap, ◌∙◌, sym, subst, ⊎_elim, take-append-drop, length-append}
 use Rattle.std.proofs.lemmas.List.{take_at, drop_at}
 use Rattle.std.proofs.lemmas.Bool.{and_parts, and_from, or_parts, cases_Bool}
-use Rattle.record.specs.Kind.{Kind, Laws, Taken}
+use Rattle.record.specs.Kind.{Kind, Laws}
 use Rattle.record.specs.Pair.{is_left, at_side, left_part, right_part, pair_lawful, sides_conflict, pair_after}
-use Rattle.record.specs.Pair.{pair_tells, pair_taking, pair_kind}
+use Rattle.record.specs.Pair.{pair_tells, pair_kind}
 use Rattle.record.specs.declared.command.Command.{Command}
-use Rattle.record.specs.declared.command.Unlawful.{Unlawful}
 use Rattle.record.specs.Conflicts.{either_way}
 
 -- conflict on the sides is mutual if it is on each side
@@ -30,18 +29,6 @@ module _ (L R : Kind) (a b : List ℕ) (n : length a ≡ L.taking.size) where
 
   right_after : (c : Command) → is_left c ≡ false → pair_after L R (a ++ b) c ≡ a ++ R.taking.after b (at_side c)
   right_after c e = simp (e, take_at a b L.taking.size n, drop_at a b L.taking.size n)
-
-  -- what the left answers is what the pair answers
-  pub taken_left : (a' : List ℕ) (c : Command) (r : Result (Unit {0}) Unlawful) → is_left c ≡ true →
-      Taken L.taking (at_side c) r a a' → Taken (pair_taking L R) c r (a ++ b) (a' ++ b)
-  taken_left a' c (Ok u) e t = (simp e t.0, ap (λ (x : List ℕ). x ++ b) t.1 ∙ sym (left_after c e))
-  taken_left a' c (Err u) e t = (simp e t.0, t.1, ap (λ (x : List ℕ). x ++ b) t.2)
-
-  -- what the right answers is what the pair answers
-  pub taken_right : (b' : List ℕ) (c : Command) (r : Result (Unit {0}) Unlawful) → is_left c ≡ false →
-      Taken R.taking (at_side c) r b b' → Taken (pair_taking L R) c r (a ++ b) (a ++ b')
-  taken_right b' c (Ok u) e t = (simp e t.0, ap (λ (x : List ℕ). a ++ x) t.1 ∙ sym (right_after c e))
-  taken_right b' c (Err u) e t = (simp e t.0, t.1, ap (λ (x : List ℕ). a ++ x) t.2)
 
 module _ (L R : Kind) (p : Laws L) (q : Laws R) where
   -- a list that the pair can tell, in its two parts

@@ -1,6 +1,7 @@
 ghost use Rattle.std.specs.Prelude.{◌≡◌, ◌++◌};
-ghost use Rattle.record.specs.Pair.{is_left, at_side, pair_kind};
+ghost use Rattle.record.specs.Pair.{pair_kind};
 ghost use Rattle.record.specs.PairLaws.{pair_laws, both_tell};
+ghost use Rattle.record.specs.PairSide.{GoesTo};
 
 use crate::command::{Command, Unlawful};
 use crate::record::Record;
@@ -13,22 +14,26 @@ pub struct Pair<L, R> {
     pub right: R,
 }
 
-// Whether the command is for the left: its subject is even.
-fn left_is_meant(command: Command) -> bool
-    ensures { result ≡ is_left command }
-{
-    command.subject % 2 == 0
+// The side that a command is for, and the command as that side sees it.
+#[derive(Clone, Copy)]
+enum Side {
+    Left(Command),
+    Right(Command),
 }
 
-// The command as its side sees it: the subject is halved.
-fn for_side(command: Command) -> Command
-    ensures { result ≡ at_side command }
-{
-    Command {
-        verb: command.verb,
-        subject: command.subject / 2,
-        day: command.day,
-        amount: command.amount,
+impl From<Command> for Side {
+    ghost from_gives = { GoesTo };
+
+    fn from(command: Command) -> Self {
+        let halved = Command {
+            subject: command.subject / 2,
+            ..command
+        };
+        if command.subject % 2 == 0 {
+            Side::Left(halved)
+        } else {
+            Side::Right(halved)
+        }
     }
 }
 
@@ -53,10 +58,9 @@ impl<L: Record, R: Record> Record for Pair<L, R> {
     }
 
     fn is_lawful(command: Command) -> bool {
-        if left_is_meant(command) {
-            L::is_lawful(for_side(command))
-        } else {
-            R::is_lawful(for_side(command))
+        match Side::from(command) {
+            Side::Left(command) => L::is_lawful(command),
+            Side::Right(command) => R::is_lawful(command),
         }
     }
 
@@ -64,18 +68,17 @@ impl<L: Record, R: Record> Record for Pair<L, R> {
         if !(Self::is_lawful(a) && Self::is_lawful(b)) {
             return true;
         }
-        if left_is_meant(a) {
-            left_is_meant(b) && L::in_conflict(for_side(a), for_side(b))
-        } else {
-            !left_is_meant(b) && R::in_conflict(for_side(a), for_side(b))
+        match (Side::from(a), Side::from(b)) {
+            (Side::Left(a), Side::Left(b)) => L::in_conflict(a, b),
+            (Side::Right(a), Side::Right(b)) => R::in_conflict(a, b),
+            _ => false,
         }
     }
 
     fn take(&mut self, command: Command) -> Result<(), Unlawful> {
-        if left_is_meant(command) {
-            self.left.take(for_side(command))
-        } else {
-            self.right.take(for_side(command))
+        match Side::from(command) {
+            Side::Left(command) => self.left.take(command),
+            Side::Right(command) => self.right.take(command),
         }
     }
 
