@@ -1,5 +1,2 @@
-pub mod AdjustLoop
 pub mod CardChanged
-pub mod PostLoop
 pub mod PostingLaws
-pub mod TellLoop

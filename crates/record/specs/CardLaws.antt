@@ -81,7 +81,7 @@ range_take (suc n) (x ∷ xs) e =
     let k = and_parts (in_range x) (all_in_range xs) e in
     and_from (in_range x) (all_in_range (take n xs)) k.0 (range_take n xs k.1)
 
-posted_card : PlacingFacts → (r : Round) (xs : List Round) → in_range r ≡ true → is_card xs ≡ true → is_card (posted r xs) ≡ true
+pub posted_card : PlacingFacts → (r : Round) (xs : List Round) → in_range r ≡ true → is_card xs ≡ true → is_card (posted r xs) ≡ true
 posted_card f r xs a e =
     let k = card_parts xs e in
     card_from (posted r xs) (simp length-take (omega arith)) (order_take 20 (placed r xs) (f.ordered r xs k.1))
@@ -128,7 +128,7 @@ length_adjusted : (d : ℤ) (xs : List Round) → length (adjusted d xs) ≡ len
 length_adjusted d [] = refl
 length_adjusted d (x ∷ xs) = ap suc (length_adjusted d xs)
 
-adjusted_card : (d : ℤ) (xs : List Round) → is_card xs ≡ true → is_card (adjusted d xs) ≡ true
+pub adjusted_card : (d : ℤ) (xs : List Round) → is_card xs ≡ true → is_card (adjusted d xs) ≡ true
 adjusted_card d xs e =
     let k = card_parts xs e in
     let a = k.0 in

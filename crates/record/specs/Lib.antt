@@ -1,5 +1,6 @@
 pub mod BookTurn
 pub mod Card
+pub mod Change
 pub mod ClosingBook
 pub mod Coded
 pub mod Command
@@ -10,6 +11,7 @@ pub mod Pair
 pub mod PairSide
 pub mod Posting
 pub mod Rounds
+pub mod RoundsOrder
 pub mod Table
 pub mod ClosingBookLaws
 pub mod KittyLaws

@@ -1,14 +1,13 @@
 // Rounds: the golf rounds that count for eight players' handicaps.
 mod adjust;
 pub mod card;
-mod change;
 pub mod laws;
+mod order;
 mod post;
 pub mod record;
 mod tell;
 
-ghost use Rattle.std.specs.Prelude.{◌≡◌, true};
-ghost use Rattle.record.specs.Table.{table_sound};
+ghost use Rattle.std.specs.Prelude.{◌≡◌, length};
 
 use card::Card;
 
@@ -16,5 +15,5 @@ use card::Card;
 #[derive(Drop)]
 pub struct Rounds {
     cards: [Card; 8],
-    ghost sound: { table_sound cards ≡ true },
+    ghost eight: { length cards ≡ 8 },
 }

@@ -1,8 +1,8 @@
-ghost use Rattle.std.specs.Prelude.{◌≡◌, ◌≤◌, length};
-ghost use Rattle.record.specs.Card.{ahead, posted};
-ghost use Rattle.record.specs.Table.{kept};
+ghost use Rattle.std.specs.Prelude.{◌≡◌, [], ◌∷◌, ◌++◌};
+ghost use Rattle.record.specs.Card.{ahead, placed};
 
-use super::card::{Card, Round};
+use super::card::Round;
+use std::mem;
 
 // Whether the first round stands before the second, or may.
 fn is_ahead(x: Round, y: Round) -> bool
@@ -11,25 +11,15 @@ fn is_ahead(x: Round, y: Round) -> bool
     x.day > y.day || x.day == y.day && x.amount <= y.amount
 }
 
-// Puts the round in its place; the last of 21 falls out.
-pub(super) fn post(card: &mut Card, round: Round)
-    requires count_bound { card.old.count ≤ 20 }
-    requires rounds_len { length card.old.rounds ≡ 20 }
-    ensures after { kept card.new ≡ posted round (kept card.old) }
-    ensures bound { card.new.count ≤ 20 }
-    ensures width { length card.new.rounds ≡ 20 }
+// Puts the round in its place, and gives the one that it drives out at the end.
+pub(super) fn put_in_place(rounds: &mut [Round], round: Round) -> Round
+    ensures { rounds.new ++ result ∷ [] ≡ placed round rounds.old }
 {
     let mut carried = round;
-    let count = card.count;
-    for i in 0..count {
-        let here = card.rounds[i];
-        if is_ahead(carried, here) {
-            card.rounds[i] = carried;
-            carried = here;
+    for here in rounds.iter_mut() {
+        if is_ahead(carried, *here) {
+            mem::swap(here, &mut carried);
         }
     }
-    if count < 20 {
-        card.rounds[count] = carried;
-        card.count = count + 1;
-    }
+    carried
 }

@@ -6,9 +6,8 @@ ghost use Rattle.record.specs.RoundsLaws.{rounds_laws};
 ghost use Rattle.record.specs.Tables.{table_tells};
 
 use super::Rounds;
-use super::card::{Card, Round};
-use super::change::{change, meet_on_a_card, posts_or_adjusts};
-use super::tell::tell_card;
+use super::card::Card;
+use super::order::Order;
 use crate::command::{Command, Unlawful};
 use crate::record::Record;
 use std::alloc::{AllocError, Global};
@@ -21,37 +20,35 @@ impl Record for Rounds {
     ghost laws = { rounds_laws
         (record { either_first = placed_ahead; past = placed_take; ordered = order_placed; ranged = range_placed }) };
 
-    ghost tellable = { λ x. table_tells x.cards x.sound };
+    ghost tellable = { λ x. table_tells x.cards x.eight };
 
     fn new() -> Self {
-        let round = Round { day: 0, amount: 0 };
-        let card = Card {
-            count: 0,
-            rounds: [round; 20],
-        };
-        Rounds { cards: [card; 8] }
+        Rounds {
+            cards: [Card::new(); 8],
+        }
     }
 
     fn is_lawful(command: Command) -> bool {
-        posts_or_adjusts(command)
+        Order::try_from(command).is_ok()
     }
 
     fn in_conflict(a: Command, b: Command) -> bool {
-        !(posts_or_adjusts(a) && posts_or_adjusts(b)) || meet_on_a_card(a, b)
+        match (Order::try_from(a), Order::try_from(b)) {
+            (Ok(a), Ok(b)) => a.player == b.player && (a.adjusts() || b.adjusts()),
+            _ => true,
+        }
     }
 
     fn take(&mut self, command: Command) -> Result<(), Unlawful> {
-        if !posts_or_adjusts(command) {
-            return Err(Unlawful);
-        }
-        change(&mut self.cards[command.subject as usize], command);
+        let Order { player, change } = Order::try_from(command)?;
+        self.cards[player] = self.cards[player].after(change);
         Ok(())
     }
 
     fn tell(&self, heap: Global) -> Result<Vec<u32>, AllocError> {
         let mut list = Vec::new(heap);
         for card in &self.cards {
-            tell_card(&mut list, card)?;
+            card.tell_onto(&mut list)?;
         }
         Ok(list)
     }
