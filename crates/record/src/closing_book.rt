@@ -79,8 +79,7 @@ impl<B: Record> Record for ClosingBook<B> {
     }
 
     fn tell(&self, heap: Global) -> Result<Vec<u32>, AllocError> {
-        let mut list = Vec::new(heap);
-        list.push(u32::from(self.closed))?;
+        let mut list = vec![in heap; u32::from(self.closed)]?;
         let below = self.below.tell(heap)?;
         list.extend_from_slice(&below)?;
         Ok(list)

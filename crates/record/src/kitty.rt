@@ -80,8 +80,6 @@ impl Record for Kitty {
     }
 
     fn tell(&self, heap: Global) -> Result<Vec<u32>, AllocError> {
-        let mut list = Vec::new(heap);
-        list.push(self.balance)?;
-        Ok(list)
+        Ok(vec![in heap; self.balance]?)
     }
 }

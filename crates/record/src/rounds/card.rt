@@ -15,13 +15,11 @@ pub struct Round {
 }
 
 // A player's kept rounds, which are the first `count`: later days first, and lower amounts first within a day.
-// Stays an array with a count: a record has its memory from the start and `new` cannot fail, and eight cards stand in
-// an array by being copied.
+// Stays an array with a count: a record never allocates, `new` cannot fail, and a card is copied, eight times into a table.
 #[derive(Clone, Copy)]
 pub struct Card {
     count: usize,
     rounds: [Round; 20],
-    ghost places: { length rounds ≡ 20 },
     ghost room: { count ≤ 20 },
     ghost in_play: { is_card (take count rounds) ≡ true },
 }
@@ -87,7 +85,6 @@ impl Card {
         let count = self.count;
         list.push(count as u32)?;
         tell_pairs(list, &self.rounds[..count])?;
-        list.resize(list.len() + (40 - 2 * count), 0)?;
-        Ok(())
+        list.resize(list.len() + (40 - 2 * count), 0)
     }
 }

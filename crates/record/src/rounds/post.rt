@@ -2,13 +2,14 @@ ghost use Rattle.std.specs.Prelude.{◌≡◌, [], ◌∷◌, ◌++◌};
 ghost use Rattle.record.specs.Card.{ahead, placed};
 
 use super::card::Round;
+use std::cmp::Reverse;
 use std::mem;
 
 // Whether the first round stands before the second, or may.
 fn is_ahead(x: Round, y: Round) -> bool
     ensures { result ≡ ahead x y }
 {
-    x.day > y.day || x.day == y.day && x.amount <= y.amount
+    (Reverse(x.day), x.amount) <= (Reverse(y.day), y.amount)
 }
 
 // Puts the round in its place, and gives the one that it drives out at the end.
