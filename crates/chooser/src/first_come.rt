@@ -1,48 +1,42 @@
 ghost use Rattle.chooser.specs.FirstCome.{first_come};
 ghost use Rattle.chooser.specs.Ruled.{Fresh};
 ghost use Rattle.std.proofs.Common.{arith};
-ghost use Rattle.chooser.specs.Rules.{ruled_sound};
 
-use crate::chooser::Chooser;
-use crate::log::Log;
-use crate::refusal::Refusal;
+use crate::proposal::Proposal;
+use crate::rule::Rule;
+use crate::ruled::Ruled;
 
 // First-come: each stage is decided by its first proposal.
-#[derive(Drop)]
-pub struct FirstCome {
-    log: Log,
-}
+pub type FirstCome = Ruled<First>;
 
-impl FirstCome {
-    pub fn new() -> Self
-        ensures { Fresh 1 (first_come result.log) }
-    {
-        FirstCome { log: Log::new() }
-    }
-}
+// The rule that the first proposal decides.
+#[derive(Clone, Copy)]
+pub struct First;
 
-impl Chooser for FirstCome {
-    ghost meaning = { λ x. first_come x.log };
+impl Rule for First {
+    ghost needs = { λ x. 1 };
 
-    ghost sound = { λ x. ruled_sound 1 (λ s ps. 0) (omega arith) (omega arith) (λ s ps h. omega arith) x.log };
+    ghost picks = { λ x ps. 0 };
+
+    ghost low = { λ x. omega arith };
+
+    ghost high = { λ x. omega arith };
+
+    ghost within = { λ x ps h. omega arith };
 
     fn need(&self) -> u8 {
         1
     }
 
-    fn count(&self, stage: u32) -> Result<usize, Refusal> {
-        self.log.count(stage)
+    fn place(&self, _first: &[Proposal]) -> usize {
+        0
     }
+}
 
-    fn decision(&self, stage: u32) -> Result<Option<(u64, u64)>, Refusal> {
-        let proposals = self.log.proposals(stage)?;
-        if proposals.len() < 1 {
-            return Ok(None);
-        }
-        Ok(Some((proposals[0].nonconflicting, proposals[0].conflicting)))
-    }
-
-    fn propose(&mut self, stage: u32, node: u8, sets: (u64, u64)) -> Result<(), Refusal> {
-        self.log.propose(stage, node, sets)
+impl Ruled<First> {
+    pub fn new() -> Self
+        ensures { Fresh 1 (first_come result.log) }
+    {
+        Ruled::by(First)
     }
 }

@@ -8,3 +8,5 @@ pub mod log;
 pub mod lowest_of;
 pub mod proposal;
 pub mod refusal;
+pub mod rule;
+pub mod ruled;

@@ -1,20 +1,22 @@
 ghost use Rattle.std.specs.Prelude.{◌≡◌, ◌≤◌};
 ghost use Rattle.chooser.specs.LowestOf.{lowest, lowest_of};
 ghost use Rattle.chooser.specs.Ruled.{Makes};
-ghost use Rattle.chooser.specs.Rules.{ruled_sound, lowest_within};
+ghost use Rattle.chooser.specs.Rules.{lowest_within};
 
-use crate::chooser::Chooser;
-use crate::log::Log;
 use crate::proposal::Proposal;
 use crate::refusal::Refusal;
+use crate::rule::Rule;
+use crate::ruled::Ruled;
 
 const HIGHEST_NEED: u8 = 7;
 
 // Lowest-of: each stage is decided by the proposal of the lowest node among its first `need`.
-#[derive(Drop)]
-pub struct LowestOf {
+pub type LowestOf = Ruled<Lowest>;
+
+// The rule that the lowest node of the first `need` decides.
+#[derive(Clone, Copy)]
+pub struct Lowest {
     need: u8,
-    log: Log,
     ghost low: { 1 ≤ need },
     ghost high: { need ≤ 7 },
 }
@@ -34,46 +36,34 @@ fn lowest_place(proposals: &[Proposal]) -> usize
     best
 }
 
-impl LowestOf {
-    // A chooser with this need, 1 to 7.
-    pub fn new(need: u8) -> Result<Self, Refusal>
-        ensures { Makes (λ x. lowest_of x.need x.log) need result }
-    {
-        if need == 0 || need > HIGHEST_NEED {
-            return Err(Refusal::NeedOutOfRange);
-        }
-        Ok(LowestOf {
-            need,
-            log: Log::new(),
-        })
-    }
-}
+impl Rule for Lowest {
+    ghost needs = { λ x. x.need };
 
-impl Chooser for LowestOf {
-    ghost meaning = { λ x. lowest_of x.need x.log };
+    ghost picks = { λ x ps. lowest ps };
 
-    ghost sound = { λ x. ruled_sound x.need (λ s ps. lowest ps) x.low x.high (lowest_within x.need x.low) x.log };
+    ghost low = { λ x. x.low };
+
+    ghost high = { λ x. x.high };
+
+    ghost within = { λ x. lowest_within x.need x.low 0 };
 
     fn need(&self) -> u8 {
         self.need
     }
 
-    fn count(&self, stage: u32) -> Result<usize, Refusal> {
-        self.log.count(stage)
+    fn place(&self, first: &[Proposal]) -> usize {
+        lowest_place(first)
     }
+}
 
-    fn decision(&self, stage: u32) -> Result<Option<(u64, u64)>, Refusal> {
-        let proposals = self.log.proposals(stage)?;
-        let need = self.need as usize;
-        if proposals.len() < need {
-            return Ok(None);
+impl Ruled<Lowest> {
+    // A chooser with this need, 1 to 7.
+    pub fn new(need: u8) -> Result<Self, Refusal>
+        ensures { Makes (λ x. lowest_of x.rule.need x.log) need result }
+    {
+        if need == 0 || need > HIGHEST_NEED {
+            return Err(Refusal::NeedOutOfRange);
         }
-        let place = lowest_place(&proposals[0..need]);
-        let chosen = proposals[place];
-        Ok(Some((chosen.nonconflicting, chosen.conflicting)))
-    }
-
-    fn propose(&mut self, stage: u32, node: u8, sets: (u64, u64)) -> Result<(), Refusal> {
-        self.log.propose(stage, node, sets)
+        Ok(Ruled::by(Lowest { need }))
     }
 }
