@@ -51,7 +51,7 @@ lowest_decides need log s low h =
     let same : (i : ℕ) → i < need → node_at (take need ps) i ≡ node_at ps i =
     λ i k. ap (λ (p : Proposal). p.node) (get_or-take need ps i no_proposal k) in
     let r = lowest_is_lowest (take need ps) (omega arith)
-    (λ i k. omega (arith, same i (omega arith), nodes_below log.stages s log.sound i (omega arith))) in
+    (λ i k. omega (arith, same i (omega arith), nodes_below log.stages s i (omega arith))) in
     let k = r.0 in (
       lowest (take need ps),
       omega (arith, k),

@@ -1,3 +1,4 @@
+pub mod Arrivals
 pub mod FirstCome
 pub mod Laws
 pub mod Log

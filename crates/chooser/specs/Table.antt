@@ -1,32 +1,25 @@
 -- How the code holds the proposals: 32 stages, each an array of seven of which the first part counts.
-use Rattle.std.specs.Prelude.{ℕ, ◌-◌, Bool, true, cond, not, ◌&&◌, List, [], ◌∷◌, length, take, ◌==◌, nat_le, nat_lt}
+use Rattle.std.specs.Prelude.{◌≡◌, ℕ, ◌-◌, cond, List, [], ◌∷◌, ◌++◌, take, replicate, Some, None, Ok, Err, Result, refl}
 use Rattle.std.specs.Prelude.{slice_index_or}
-use Rattle.chooser.specs.Meaning.{served, has_proposed}
+use Rattle.std.proofs.Common.{arith}
+use Rattle.chooser.specs.Arrivals.{stage_refusal}
+use Rattle.chooser.specs.Meaning.{served, no_proposal}
 use Rattle.chooser.specs.declared.log.stage.Stage.{Stage}
 use Rattle.chooser.specs.declared.proposal.Proposal.{Proposal}
+use Rattle.chooser.specs.declared.refusal.Refusal.{Refusal}
 
 -- the proposals that a stage has
 abbrev pub arrived : Stage → List Proposal
 arrived t = take t.count t.proposals
 
--- each node proposes at most once, and is below a limit
-abbrev pub apart : ℕ → List Proposal → Bool
-apart m [] = true
-apart m (p ∷ ps) = (nat_lt p.node m && not (has_proposed p.node ps)) && apart m ps
-
-abbrev pub stage_sound : Stage → Bool
-stage_sound t = length t.proposals == 7 && (nat_le t.count 7 && apart 7 (arrived t))
-
-abbrev pub stages_sound : List Stage → Bool
-stages_sound [] = true
-stages_sound (t ∷ ts) = stage_sound t && stages_sound ts
-
-abbrev pub table_sound : List Stage → Bool
-table_sound ts = length ts == 32 && stages_sound ts
+-- a proposal is refused and leaves the stage, or comes after those that it has
+abbrev pub Adds : Stage → Proposal → Result (Unit {0}) Refusal → Stage → Type 0
+Adds t p (Ok u) v = (stage_refusal (arrived t) p.node ≡ None) × (arrived v ≡ arrived t ++ (p ∷ []))
+Adds t p (Err e) v = (stage_refusal (arrived t) p.node ≡ Some e) × (v ≡ t)
 
 -- what stands beyond the last stage
 abbrev pub no_stage : Stage
-no_stage = record { count = 0; proposals = [] }
+no_stage = record { count = 0; proposals = replicate 7 no_proposal; places = refl; within = omega arith; each_once = refl }
 
 -- stage s stands at place s - 1
 abbrev pub stage_at : List Stage → ℕ → Stage

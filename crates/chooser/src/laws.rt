@@ -3,18 +3,14 @@ ghost use Rattle.chooser.specs.LowestOf.{LowestDecides, LowestIsLowest};
 
 // What holds of every chooser over any list of proposals: its need and its decisions stay, and a stage with enough
 // proposals is decided.
-pub fn decisions_stand() -> u8
+pub fn decisions_stand()
     ensures need { NeedStays }
     ensures stay { DecisionsStay }
     ensures decide { EnoughDecides }
-{
-    0
-}
+{}
 
 // What the rule of Lowest-of comes to: its place is that of the lowest node, and so it decides by the lowest of the first.
-pub fn lowest_is_lowest() -> u8
+pub fn lowest_is_lowest()
     ensures place { LowestIsLowest }
     ensures decides { LowestDecides }
-{
-    0
-}
+{}

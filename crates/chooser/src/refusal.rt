@@ -1,17 +1,17 @@
 ghost use Rattle.std.specs.Prelude.{◌≡◌};
 ghost use Rattle.chooser.specs.Refusal.{number_of};
 
-// Why a chooser turns a call down.
+// Why a chooser turns a call down, with the number that it goes by.
 #[derive(Clone, Copy, Debug, PartialEq, Eq)]
 pub enum Refusal {
     // the stage is not 1 to 32
-    NoSuchStage,
+    NoSuchStage = 31,
     // the node is above 6
-    NoSuchNode,
+    NoSuchNode = 32,
     // this node has proposed in this stage
-    ProposedBefore,
+    ProposedBefore = 33,
     // the need is 0 or above 7
-    NeedOutOfRange,
+    NeedOutOfRange = 34,
 }
 
 impl Refusal {
@@ -19,11 +19,6 @@ impl Refusal {
     pub fn number(self) -> u8
         ensures { result ≡ number_of self }
     {
-        match self {
-            Refusal::NoSuchStage => 31,
-            Refusal::NoSuchNode => 32,
-            Refusal::ProposedBefore => 33,
-            Refusal::NeedOutOfRange => 34,
-        }
+        self as u8
     }
 }

@@ -1,6 +1,6 @@
-ghost use Rattle.std.specs.Prelude.{◌≡◌, ℕ, [], length};
+ghost use Rattle.std.specs.Prelude.{◌≡◌, ℕ, ◌-◌, [], length};
 ghost use Rattle.chooser.specs.Log.{logged, Reads, Appends};
-ghost use Rattle.chooser.specs.Meaning.{asked, has_proposed};
+ghost use Rattle.chooser.specs.Meaning.{asked};
 
 use super::Log;
 use super::stage::Stage;
@@ -9,18 +9,15 @@ use crate::refusal::Refusal;
 
 const STAGES: u32 = 32;
 
-const HIGHEST_NODE: u8 = 6;
-
-// Whether one of the proposals is the node's.
-fn is_among(proposals: &[Proposal], node: u8) -> bool
-    ensures { result ≡ has_proposed node proposals.now }
+// Where a stage stands in the log.
+fn place_of(stage: u32) -> Result<usize, Refusal>
+    ensures { result ≡ asked stage (stage - 1) }
 {
-    for proposal in proposals {
-        if proposal.node == node {
-            return true;
-        }
+    if stage < 1 || stage > STAGES {
+        return Err(Refusal::NoSuchStage);
     }
-    false
+    // Stays: there is no From<u32> for usize, and a TryFrom would add a refusal that never comes.
+    Ok(stage as usize - 1)
 }
 
 impl Log {
@@ -28,17 +25,8 @@ impl Log {
     pub(crate) fn new() -> Self
         ensures { (s : ℕ) → logged result s ≡ [] }
     {
-        let nobody = Proposal {
-            node: 0,
-            nonconflicting: 0,
-            conflicting: 0,
-        };
-        let empty = Stage {
-            count: 0,
-            proposals: [nobody; 7],
-        };
         Log {
-            stages: [empty; 32],
+            stages: [Stage::new(); 32],
         }
     }
 
@@ -46,46 +34,25 @@ impl Log {
     pub(crate) fn count(&self, stage: u32) -> Result<usize, Refusal>
         ensures { result ≡ asked stage (length (logged self.now stage)) }
     {
-        if stage < 1 || stage > STAGES {
-            return Err(Refusal::NoSuchStage);
-        }
-        Ok(self.stages[stage as usize - 1].count)
+        Ok(self.proposals(stage)?.len())
     }
 
     // The proposals of the stage, in order of arrival.
     pub(crate) fn proposals(&self, stage: u32) -> Result<&[Proposal], Refusal>
         ensures { Reads self.now stage result }
     {
-        if stage < 1 || stage > STAGES {
-            return Err(Refusal::NoSuchStage);
-        }
-        let found = &self.stages[stage as usize - 1];
-        Ok(&found.proposals[0..found.count])
+        Ok(self.stages[place_of(stage)?].proposals())
     }
 
     // Appends the node's proposal to the stage.
     pub(crate) fn propose(&mut self, stage: u32, node: u8, sets: (u64, u64)) -> Result<(), Refusal>
         ensures { Appends self.old stage node sets result self.new }
     {
-        if stage < 1 || stage > STAGES {
-            return Err(Refusal::NoSuchStage);
-        }
-        if node > HIGHEST_NODE {
-            return Err(Refusal::NoSuchNode);
-        }
-        let at = stage as usize - 1;
-        let mut found = self.stages[at];
-        let count = found.count;
-        if is_among(&found.proposals[0..count], node) {
-            return Err(Refusal::ProposedBefore);
-        }
-        found.proposals[count] = Proposal {
+        let place = place_of(stage)?;
+        self.stages[place].add(Proposal {
             node,
             nonconflicting: sets.0,
             conflicting: sets.1,
-        };
-        found.count = count + 1;
-        self.stages[at] = found;
-        Ok(())
+        })
     }
 }

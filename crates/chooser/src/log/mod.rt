@@ -2,13 +2,9 @@
 pub mod methods;
 pub mod stage;
 
-ghost use Rattle.std.specs.Prelude.{◌≡◌, true};
-ghost use Rattle.chooser.specs.Table.{table_sound};
-
 use stage::Stage;
 
 #[derive(Drop)]
 pub struct Log {
     stages: [Stage; 32],
-    ghost sound: { table_sound stages ≡ true },
 }
