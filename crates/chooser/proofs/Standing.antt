@@ -1,24 +1,17 @@
 -- Whatever is proposed later, the need and the decisions stay.
-use Rattle.std.proofs.Common.{◌≡◌, ℕ, get_or, Some, Ok, Err, Result, refl, ap, ◌∙◌, ⊎_elim}
-use Rattle.std.proofs.lemmas.Bool.{cases_eq}
+use Rattle.std.proofs.Common.{arith, ◌≡◌, ℕ, get_or, Some, Result, refl, ◌∙◌}
 use Rattle.chooser.specs.Laws.{at_once, and_then, DecisionsStay, EnoughDecides, NeedStays}
 use Rattle.chooser.specs.Meaning.{Meaning, Proposes, sets_of, no_proposal}
 use Rattle.chooser.specs.declared.refusal.Refusal.{Refusal}
 
 -- one call leaves the need
 need_kept : (M N : Meaning) (s n : ℕ) (sets : ℕ × ℕ) (r : Result (Unit {0}) Refusal) → Proposes M s n sets r N → N.need ≡ M.need
-need_kept M N s n sets (Ok u) e = e.1.same_need
-need_kept M N s n sets (Err x) e = ap (λ (K : Meaning). K.need) e.1
+need_kept M N s n sets r e = grind arith
 
 -- one call leaves a decision that stands
 decision_kept : (M N : Meaning) (s n : ℕ) (sets : ℕ × ℕ) (r : Result (Unit {0}) Refusal) → Proposes M s n sets r N →
     (j : ℕ) (d : ℕ × ℕ) → M.decision j ≡ Some d → N.decision j ≡ Some d
-decision_kept M N s n sets (Ok u) e j d f =
-    ⊎_elim
-    (λ (z : j ≡ s). rw z (e.1.stays d (rw z at f)))
-    (λ (z : j ≡ s → ⊥). (e.1.elsewhere j z).1 ∙ f)
-    (cases_eq j s)
-decision_kept M N s n sets (Err x) e j d f = ap (λ (K : Meaning). K.decision j) e.1 ∙ f
+decision_kept M N s n sets r e j d f = grind arith
 
 pub need_stays : NeedStays
 need_stays M N at_once = refl
