@@ -3,7 +3,7 @@ ghost use Rattle.chooser.specs.Meaning.{sets_of};
 
 // What a node proposes for a stage: two sets of messages, message m as bit m of a mask. Those of the first are
 // delivered before those of the second.
-#[derive(Clone, Copy)]
+#[derive(Clone, Copy, Default)]
 pub struct Proposal {
     pub node: u8,
     pub nonconflicting: u64,

@@ -18,6 +18,7 @@ pub trait Rule {
     fn place(&self, first: &[Proposal]) -> usize
         ensures { result ≡ picks self.now first.now };
 
+    // a need of 1 to 7, and a place among the first so many
     ghost low: { (x : Self) → 1 ≤ needs x };
 
     ghost high: { (x : Self) → needs x ≤ 7 };

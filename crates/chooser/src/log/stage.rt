@@ -26,14 +26,9 @@ impl Stage {
     pub(crate) fn new() -> Self
         ensures { arrived result ≡ [] }
     {
-        let nobody = Proposal {
-            node: 0,
-            nonconflicting: 0,
-            conflicting: 0,
-        };
         Stage {
             count: 0,
-            proposals: [nobody; 7],
+            proposals: [Proposal::default(); 7],
         }
     }
 
