@@ -26,3 +26,6 @@ enough_decides M N x l s h =
     let k = x.stands s h in
     let d = sets_of (get_or (M.proposals s) k.0 no_proposal) in
     (d, k.2, decisions_stay M N l s d k.2)
+
+-- what the law of standing decisions says
+pub ruleset standing = (need_stays, decisions_stay, enough_decides)

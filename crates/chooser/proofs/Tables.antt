@@ -1,7 +1,7 @@
 -- The table of stages that a log holds.
-use Rattle.std.proofs.Common.{◌≡◌, ℕ, ◌-◌, ◌<◌, ◌≤◌, true, false, leb, ◌≢◌, List, [], length, get_or, set, replicate, zero, suc, refl, ap, ⊎_elim, arith}
-use Rattle.std.proofs.lemmas.List.{get_or-set_other}
-use Rattle.std.proofs.lemmas.Bool.{and_parts, leb-true, cases_Bool, cond_both}
+use Rattle.std.proofs.Common.{◌≡◌, ℕ, ◌-◌, ◌<◌, ◌≤◌, List, [], length, get_or, set, replicate, zero, suc, refl, arith}
+use Rattle.std.proofs.lemmas.Bool.{cond_both}
+use Rattle.std.proofs.lemmas.Grind.{common_steps}
 use Rattle.chooser.specs.Meaning.{served, no_proposal}
 use Rattle.chooser.specs.Table.{arrived, no_stage, stage_at, in_table}
 use Rattle.chooser.specs.declared.log.stage.Stage.{Stage}
@@ -19,14 +19,7 @@ nodes_below ts s i =
 -- no other stage changes
 pub none_there : (ts : List Stage) (s : ℕ) (t : Stage) (j : ℕ) → 1 ≤ s → (j ≡ s → ⊥) →
     in_table (set ts (s - 1) t) j ≡ in_table ts j
-none_there ts s t j a ne =
-    ⊎_elim
-    (λ (v : served j ≡ true).
-    let w = leb-true 1 j (and_parts (leb 1 j) (leb j 32) v).0 in
-    let o : j - 1 ≢ s - 1 = λ (z : j - 1 ≡ s - 1). ne (omega arith) in
-    simp v (ap arrived (get_or-set_other ts (s - 1) (j - 1) t no_stage o)))
-    (λ (v : served j ≡ false). simp v)
-    (cases_Bool (served j))
+none_there ts s t j a ne = grind (arith, common_steps)
 
 nothing_at : (k : ℕ) (t : Stage) → arrived t ≡ [] → (i : ℕ) → arrived (get_or (replicate k t) i no_stage) ≡ []
 nothing_at zero t e i = refl
