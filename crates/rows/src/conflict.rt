@@ -9,16 +9,7 @@ use record::record::Record;
 pub fn command_of(book: &[Command], m: u8) -> Command
     ensures { result ≡ command_of book.now m }
 {
-    if (m as usize) < book.len() {
-        book[m as usize]
-    } else {
-        Command {
-            verb: 0,
-            subject: 0,
-            day: 0,
-            amount: 0,
-        }
-    }
+    book.get(usize::from(m)).copied().unwrap_or_default()
 }
 
 // Two different messages of the set whose commands conflict, or that there are none.

@@ -24,12 +24,8 @@ impl Row {
         }
         let nonconflicting = in_most(&self.checks, size.q);
         let conflicting = without(self.undelivered(), nonconflicting);
-        match chooser.propose(self.stage, node, (nonconflicting, conflicting)) {
-            Err(refusal) => Err(Refusal::Chooser(refusal)),
-            Ok(()) => {
-                self.proposed = true;
-                Ok(())
-            }
-        }
+        chooser.propose(self.stage, node, (nonconflicting, conflicting))?;
+        self.proposed = true;
+        Ok(())
     }
 }

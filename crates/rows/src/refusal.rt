@@ -1,5 +1,6 @@
 ghost use Rattle.std.specs.Prelude.{◌≡◌};
 ghost use Rattle.rows.specs.Refusals.{number_of};
+ghost use Rattle.rows.specs.declared.refusal.Refusal.TheVariants.{Chooser};
 
 use chooser::refusal::Refusal as ChooserRefusal;
 
@@ -52,6 +53,15 @@ pub enum Refusal {
     Unplayable,
     // the mark is beyond the sheet
     MarkBeyondSheet,
+}
+
+// A refusal of the chooser is one of the ring.
+impl From<ChooserRefusal> for Refusal {
+    ghost from_gives = { λ e r. r ≡ Chooser e };
+
+    fn from(refusal: ChooserRefusal) -> Refusal {
+        Refusal::Chooser(refusal)
+    }
 }
 
 impl Refusal {

@@ -42,13 +42,8 @@ impl Row {
             (asked self.old.stage ((C.Chooser.meaning chooser.now).decision self.old.stage))
             self.old at sheets.old result self.new sheets.new }
     {
-        match chooser.decision(self.stage) {
-            Err(refusal) => Err(Refusal::Chooser(refusal)),
-            Ok(None) => Err(Refusal::Undecided),
-            Ok(Some(decided)) => {
-                self.deliver(decided, sheets, at);
-                Ok(())
-            }
-        }
+        let decided = chooser.decision(self.stage)?.ok_or(Refusal::Undecided)?;
+        self.deliver(decided, sheets, at);
+        Ok(())
     }
 }

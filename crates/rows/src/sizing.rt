@@ -3,11 +3,11 @@ ghost use Rattle.rows.specs.Size.{Sized};
 use crate::refusal::Refusal;
 use crate::size::RingSize;
 
-const MOST_NODES: u8 = 7;
+const MOST_NODES: u16 = 7;
 
 impl RingSize {
     // The size with n nodes and quorum q. Refused: 1 n is 0 or above 7; 2 q is above n; 3 3 q is below 2 n + 1.
-    pub fn new(n: u8, q: u8) -> Result<RingSize, Refusal>
+    pub fn new(n: u16, q: u16) -> Result<RingSize, Refusal>
         ensures { Sized n q result }
     {
         if n == 0 || n > MOST_NODES {
@@ -19,6 +19,9 @@ impl RingSize {
         if 3 * q < 2 * n + 1 {
             return Err(Refusal::QuorumTooSmall);
         }
-        Ok(RingSize { n, q })
+        Ok(RingSize {
+            n: n as u8,
+            q: q as u8,
+        })
     }
 }

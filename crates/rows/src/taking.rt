@@ -40,11 +40,7 @@ fn has_check(checks: &[Check; 7], sender: u8, k: u8) -> bool
 fn broadcaster_of(broadcasters: &[u8], m: u8) -> u8
     ensures { result ≡ slice_index broadcasters.now m }
 {
-    if (m as usize) < broadcasters.len() {
-        broadcasters[m as usize]
-    } else {
-        0
-    }
+    broadcasters.get(usize::from(m)).copied().unwrap_or_default()
 }
 
 // Whether the set has a message that another node broadcast.
