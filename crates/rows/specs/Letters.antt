@@ -2,6 +2,11 @@
 use Rattle.std.specs.Prelude.{◌≡◌, ℕ, zero, suc, ◌+◌, ◌^◌, Bool, true, false, cond, not, ◌||◌, List, length, set, Ok, Err, Result}
 use Rattle.std.specs.Prelude.{◌==◌, count_ones, nat_le, nat_lt}
 use Rattle.rows.specs.declared.letter.Letter.{Letter}
+use Rattle.rows.specs.declared.letter.LetterKind.{LetterKind}
+use Rattle.rows.specs.declared.letter.LetterKind.TheVariants.{Data, Acknowledgement, Check}
+use Rattle.rows.specs.declared.letter.Mark.{Mark}
+use Rattle.rows.specs.declared.letter.Mark.TheVariants.{Empty, Travelling, Taken, Lost}
+use Rattle.rows.specs.declared.letter.UnknownKind.{UnknownKind}
 use Rattle.rows.specs.declared.refusal.Refusal.{Refusal}
 use Rattle.rows.specs.declared.refusal.Refusal.TheVariants.{TrayFull}
 
@@ -28,6 +33,24 @@ taken = 2
 -- a letter that is lost with a crash
 abbrev pub lost : ℕ
 lost = 3
+
+-- the number of a kind
+abbrev pub kind_number : LetterKind → ℕ
+kind_number Data = data_letter
+kind_number Acknowledgement = acknowledgement
+kind_number Check = check_letter
+
+-- the number of a mark
+abbrev pub mark_number : Mark → ℕ
+mark_number Empty = 0
+mark_number Travelling = travelling
+mark_number Taken = taken
+mark_number Lost = lost
+
+-- the kind of a number, or that it is of none
+abbrev pub IsKind : ℕ → Result LetterKind UnknownKind → Type 0
+IsKind n (Ok k) = n ≡ kind_number k
+IsKind n (Err e) = (e.0 ≡ n) × ((nat_lt n data_letter || nat_lt check_letter n) ≡ true)
 
 -- an empty place, and what stands beyond the tray
 abbrev pub no_letter : Letter

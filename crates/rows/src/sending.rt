@@ -1,7 +1,7 @@
 ghost use Rattle.std.specs.Prelude.{◌≡◌};
 ghost use Rattle.rows.specs.Letters.{Sends};
 
-use crate::letter::{Letter, TRAVELLING};
+use crate::letter::{Letter, Mark};
 use crate::refusal::Refusal;
 
 // Sends the letter to each of the nodes 0 to n - 1: it takes the n places behind the used ones, in turn.
@@ -9,13 +9,13 @@ use crate::refusal::Refusal;
 pub fn post(tray: &mut [Letter], used: usize, n: u8, letter: Letter) -> Result<(), Refusal>
     ensures { Sends tray.old used n letter result tray.new }
 {
-    if used > tray.len() || tray.len() - used < n as usize {
+    if used > tray.len() || tray.len() - used < usize::from(n) {
         return Err(Refusal::TrayFull);
     }
     for i in 0..n {
-        tray[used + i as usize] = Letter {
+        tray[used + usize::from(i)] = Letter {
             receiver: i,
-            mark: TRAVELLING,
+            mark: Mark::Travelling.into(),
             ..letter
         };
     }

@@ -4,7 +4,7 @@ ghost use Rattle.rows.specs.Rows.{on_sheet, sheet_end};
 ghost use Rattle.rows.specs.Receipts.{heard_from, from_sender, after_check, after_hearing, newly, taken_row, taken_sheets};
 ghost use Rattle.rows.specs.Receipts.{from_another, relays};
 
-use crate::letter::{ACKNOWLEDGEMENT, CHECK, DATA, Letter};
+use crate::letter::{Letter, LetterKind};
 use crate::mask::{append, has_bit, is_within, without};
 use crate::row::{Check, Phase, Row};
 use crate::size::RingSize;
@@ -40,7 +40,10 @@ fn has_check(checks: &[Check; 7], sender: u8, k: u8) -> bool
 fn broadcaster_of(broadcasters: &[u8], m: u8) -> u8
     ensures { result ≡ slice_index broadcasters.now m }
 {
-    broadcasters.get(usize::from(m)).copied().unwrap_or_default()
+    broadcasters
+        .get(usize::from(m))
+        .copied()
+        .unwrap_or_default()
 }
 
 // Whether the set has a message that another node broadcast.
@@ -61,7 +64,7 @@ impl Row {
     pub fn must_relay(&self, broadcasters: &[u8], letter: Letter) -> bool
         ensures { result ≡ relays broadcasters.now self.now letter }
     {
-        letter.kind == DATA
+        LetterKind::try_from(letter.kind) == Ok(LetterKind::Data)
             && !is_within(letter.set, self.received)
             && is_from_another(broadcasters, letter.receiver, letter.set)
     }
@@ -95,7 +98,7 @@ impl Row {
             64 * at as usize + known.count_ones() as usize,
             fresh,
         );
-        self.early = self.early | fresh;
+        self.early |= fresh;
     }
 
     // What a letter does to the row of its receiver, and to its sheet, which begins at place 64 `at` of the sheets.
@@ -104,13 +107,15 @@ impl Row {
         ensures sheet { sheets.new ≡
             taken_sheets size.n size.q letter self.old at sheets.old }
     {
-        match (self.phase, letter.kind) {
-            (_, DATA) => self.received = self.received | letter.set,
-            (Phase::Gathering, ACKNOWLEDGEMENT)
+        match (LetterKind::try_from(letter.kind), self.phase) {
+            (Ok(LetterKind::Data), _) => self.received |= letter.set,
+            (Ok(LetterKind::Acknowledgement), Phase::Gathering)
                 if letter.stage == self.stage && letter.sender < size.n => {
                 self.hear_acknowledgement(size.q, letter, sheets, at)
             }
-            (_, CHECK) if letter.stage == self.stage => self.keep_check(size.q, letter),
+            (Ok(LetterKind::Check), _) if letter.stage == self.stage => {
+                self.keep_check(size.q, letter)
+            }
             _ => {}
         }
     }
