@@ -1,10 +1,17 @@
 -- One turn of the loops that take a letter.
-use Rattle.std.proofs.Common.{◌≡◌, ℕ, ◌+◌, Bool, true, false, cond, ◌||◌, eqb, List, get_or, set, refl, ◌∙◌, add-one}
+use Rattle.std.proofs.Common.{◌≡◌, ℕ, zero, suc, ◌+◌, ◌≤◌, Bool, true, false, cond, ◌||◌, eqb, List, length, get_or, set, take, sym, refl, ap, ◌∙◌}
+use Rattle.std.proofs.Common.{add-one, add-zero, ◌++◌, ◌∷◌, [], ◌<◌, ⊎_elim, arith}
+use Rattle.std.specs.List.{list_any, count_by}
+use Rattle.std.proofs.lemmas.List.{take_more}
+use Rattle.std.proofs.lemmas.List.Folds.{list_any-append}
+use Rattle.std.proofs.lemmas.List.Sums.{count_by_more_no, count_by_more_yes}
 use Rattle.rows.specs.Masks.{has, added}
 use Rattle.rows.specs.Rows.{no_check}
 use Rattle.rows.specs.Receipts.{heard_from, from_sender}
+use Rattle.rows.specs.Proposals.{holding}
 use Rattle.rows.specs.declared.row.Check.{Check}
-use Rattle.std.proofs.lemmas.Bool.{cond-true, cond-false}
+use Rattle.std.proofs.lemmas.Bool.{cond-true, cond-false, cases_Bool}
+use mathlib.Core.Bool.{or-false}
 
 -- no message of the acknowledgement is heard at first
 pub heard_none : (h : List ℕ) (s x : ℕ) → heard_from h s x 0 ≡ h
@@ -26,16 +33,38 @@ heard_in h s x m t = heard_more h s x m ∙ cond-true (has x m) _ _ t
 pub heard_out : (h : List ℕ) (s x m : ℕ) → has x m ≡ false → heard_from h s x (m + 1) ≡ heard_from h s x m
 heard_out h s x m t = heard_more h s x m ∙ cond-false (has x m) _ _ t
 
--- none of no checks is of the sender
-pub from_none : (cs : List Check) (s : ℕ) → from_sender cs s 0 ≡ false
-unfolding from_sender
-from_none cs s = refl
-
 -- one check more
 pub from_more : (cs : List Check) (s k : ℕ)
     → from_sender cs s (k + 1) ≡ (from_sender cs s k || eqb (get_or cs k no_check).sender s)
 unfolding from_sender
 from_more cs s k = rw add-one refl
+
+-- whether one of the first checks is from the sender, as a slice of them tells
+pub from_first : (cs : List Check) (s k : ℕ) → k ≤ length cs
+    → from_sender cs s k ≡ list_any (λ (c : Check). eqb c.sender s) (take k cs)
+unfolding from_sender
+from_first cs s zero h = refl
+from_first cs s (suc k) h =
+    let t : Check → Bool = λ c. eqb c.sender s in
+    let last : Check = get_or cs k no_check in
+    let more : take (suc k) cs ≡ take k cs ++ last ∷ [] = rw add-one at (take_more cs k no_check (omega arith)) in
+    ap (λ b. b || t last) (from_first cs s k (omega arith))
+    ∙ sym (ap (list_any t) more ∙ list_any-append t (take k cs) (last ∷ []) ∙ ap (λ b. list_any t (take k cs) || b) (or-false (t last)))
+
+-- how many of the first checks have the message, as a slice of them tells
+pub holding_first : (cs : List Check) (m k : ℕ) → k ≤ length cs
+    → holding cs m k ≡ count_by (λ (c : Check). has c.set m) (take k cs)
+holding_first cs m zero h = refl
+holding_first cs m (suc k) h =
+    let t : Check → Bool = λ c. has c.set m in
+    let inside : k < length cs = omega arith in
+    let before : holding cs m k ≡ count_by t (take k cs) = holding_first cs m k (omega arith) in
+    ⊎_elim
+    (λ e. let more : count_by t (take (suc k) cs) ≡ count_by t (take k cs) + 1 = rw add-one at (count_by_more_yes t cs k no_check inside e) in
+    ap (λ n. n + cond (t (get_or cs k no_check)) 1 0) before ∙ ap (λ n. count_by t (take k cs) + n) (cond-true _ 1 0 e) ∙ sym more)
+    (λ e. let more : count_by t (take (suc k) cs) ≡ count_by t (take k cs) = rw add-one at (count_by_more_no t cs k no_check inside e) in
+    ap (λ n. n + cond (t (get_or cs k no_check)) 1 0) before ∙ ap (λ n. count_by t (take k cs) + n) (cond-false _ 1 0 e) ∙ add-zero _ ∙ sym more)
+    (cases_Bool (t (get_or cs k no_check)))
 
 -- a last test that fails adds nothing
 pub or_last : (x y : Bool) → y ≡ false → (x || y) ≡ x

@@ -1,7 +1,7 @@
 ghost use Rattle.std.specs.Prelude.{◌≡◌};
-ghost use Rattle.rows.specs.Conflicts.{command_of, Found};
+ghost use Rattle.rows.specs.Conflicts.{command_of, Found, FoundBelow};
 
-use crate::mask::has_bit;
+use crate::mask::{MOST_MESSAGES, has_bit};
 use record::command::Command;
 use record::record::Record;
 
@@ -12,21 +12,25 @@ pub fn command_of(book: &[Command], m: u8) -> Command
     book.get(usize::from(m)).copied().unwrap_or_default()
 }
 
+// A lower message of the set that conflicts with the message i of the set.
+fn conflict_below<R: Record>(book: &[Command], set: u64, i: u8) -> Option<u8>
+    ensures { FoundBelow R.Record.kind.conflicts book.now set i result }
+{
+    (0..i).find(|j| {
+        has_bit(set, i)
+            && has_bit(set, *j)
+            && R::in_conflict(command_of(book, i), command_of(book, *j))
+    })
+}
+
 // Two different messages of the set whose commands conflict, or that there are none.
 pub fn find_conflict<R: Record>(book: &[Command], set: u64) -> Option<(u8, u8)>
     ensures { Found R.Record.kind.conflicts book.now set result }
 {
-    'search: {
-        for i in 0..64u8 {
-            for j in 0..i {
-                if has_bit(set, i)
-                    && has_bit(set, j)
-                    && R::in_conflict(command_of(book, i), command_of(book, j))
-                {
-                    break 'search Some((i, j));
-                }
-            }
+    for i in 0..MOST_MESSAGES {
+        if let Some(j) = conflict_below::<R>(book, set, i) {
+            return Some((i, j));
         }
-        None
     }
+    None
 }

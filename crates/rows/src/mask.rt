@@ -1,20 +1,14 @@
-ghost use Rattle.std.specs.Prelude.{◌≡◌, ◌+◌, ◌<◌, ◌≤◌, length};
-ghost use Rattle.rows.specs.Masks.{has, added, minus, within, members, put};
+ghost use Rattle.std.specs.Prelude.{◌≡◌, ◌+◌, ◌<◌, ◌≤◌, ℕ, Bool, length};
+ghost use Rattle.rows.specs.Masks.{has, added, minus, within, members, put, those};
+
+// How many messages a mask has room for.
+pub(crate) const MOST_MESSAGES: u8 = 64;
 
 // Whether the set has i.
 pub(crate) fn has_bit(set: u64, i: u8) -> bool
-    requires { i < 64 }
     ensures { result ≡ has set i }
 {
-    (set >> i) % 2 == 1
-}
-
-// The set with i added.
-pub(crate) fn with_bit(set: u64, i: u8) -> u64
-    requires { i < 64 }
-    ensures { result ≡ added set i }
-{
-    set | (1u64 << i)
+    i < MOST_MESSAGES && (set >> i) % 2 == 1
 }
 
 // What a has and b has not.
@@ -28,7 +22,21 @@ pub(crate) fn without(a: u64, b: u64) -> u64
 pub(crate) fn is_within(a: u64, b: u64) -> bool
     ensures { result ≡ within a b }
 {
-    a & !b == 0
+    without(a, b) == 0
+}
+
+// The set of the messages that pass the test.
+pub(crate) fn all_that<F: Fn(u8) -> bool>(passes: F) -> u64
+    requires { (m : ℕ) → m < 64 → F.pre passes m }
+    ensures { (p : ℕ → Bool) → ((m : ℕ) → m < 64 → (b : Bool) → F.post passes m b → b ≡ p m) → result ≡ those p 64 }
+{
+    let mut found = 0u64;
+    for m in 0..MOST_MESSAGES {
+        if passes(m) {
+            found |= 1u64 << m;
+        }
+    }
+    found
 }
 
 // Writes the members of the set, lowest first, from the place on.
@@ -36,7 +44,7 @@ pub(crate) fn append(sheets: &mut [u8], place: usize, set: u64)
     ensures { sheets.new ≡ put sheets.old place (members set 64) }
 {
     let mut at = place;
-    for m in 0..64u8 {
+    for m in 0..MOST_MESSAGES {
         if has_bit(set, m) && at < sheets.len() {
             sheets[at] = m;
             at += 1;

@@ -5,7 +5,7 @@ ghost use Rattle.rows.specs.Receipts.{heard_from, from_sender, after_check, afte
 ghost use Rattle.rows.specs.Receipts.{from_another, relays};
 
 use crate::letter::{Letter, LetterKind};
-use crate::mask::{append, has_bit, is_within, without};
+use crate::mask::{MOST_MESSAGES, append, has_bit, is_within, without};
 use crate::row::{Check, Phase, Row};
 use crate::size::RingSize;
 use crate::tally::reached_by;
@@ -15,9 +15,9 @@ fn hear(heard: &mut [u8; 64], sender: u8, set: u64)
     requires { sender < 8 }
     ensures { heard.new ≡ heard_from heard.old sender set 64 }
 {
-    for m in 0..64u8 {
-        if has_bit(set, m) {
-            heard[m as usize] = heard[m as usize] | (1u8 << sender);
+    for (m, nodes) in heard.iter_mut().enumerate() {
+        if has_bit(set, m as u8) {
+            *nodes |= 1u8 << sender;
         }
     }
 }
@@ -27,13 +27,7 @@ fn has_check(checks: &[Check; 7], sender: u8, k: u8) -> bool
     requires { k ≤ 7 }
     ensures { result ≡ from_sender checks.now sender k }
 {
-    let mut found = false;
-    for i in 0..k {
-        if checks[i as usize].sender == sender {
-            found = true;
-        }
-    }
-    found
+    checks[..usize::from(k)].iter().any(|c| c.sender == sender)
 }
 
 // The node that broadcast the message.
@@ -50,13 +44,7 @@ fn broadcaster_of(broadcasters: &[u8], m: u8) -> u8
 fn is_from_another(broadcasters: &[u8], node: u8, set: u64) -> bool
     ensures { result ≡ from_another broadcasters.now node set }
 {
-    let mut found = false;
-    for m in 0..64u8 {
-        if has_bit(set, m) && broadcaster_of(broadcasters, m) != node {
-            found = true;
-        }
-    }
-    found
+    (0..MOST_MESSAGES).any(|m| has_bit(set, m) && broadcaster_of(broadcasters, m) != node)
 }
 
 impl Row {
@@ -70,12 +58,11 @@ impl Row {
     }
 
     // Keeps the check of a letter while there are fewer than q and none from its sender.
-    fn keep_check(&mut self, q: u8, letter: Letter)
-        requires { q ≤ 7 }
-        ensures { self.new ≡ after_check q letter self.old }
+    fn keep_check(&mut self, size: RingSize, letter: Letter)
+        ensures { self.new ≡ after_check size.q letter self.old }
     {
-        if self.checked < q && !has_check(&self.checks, letter.sender, self.checked) {
-            self.checks[self.checked as usize] = Check {
+        if self.checked < size.q && !has_check(&self.checks, letter.sender, self.checked) {
+            self.checks[usize::from(self.checked)] = Check {
                 sender: letter.sender,
                 set: letter.set,
             };
@@ -95,7 +82,7 @@ impl Row {
         let fresh = without(reached_by(&self.heard, q), known);
         append(
             sheets,
-            64 * at as usize + known.count_ones() as usize,
+            64 * usize::from(at) + known.count_ones() as usize,
             fresh,
         );
         self.early |= fresh;
@@ -114,7 +101,7 @@ impl Row {
                 self.hear_acknowledgement(size.q, letter, sheets, at)
             }
             (Ok(LetterKind::Check), _) if letter.stage == self.stage => {
-                self.keep_check(size.q, letter)
+                self.keep_check(size, letter)
             }
             _ => {}
         }

@@ -1,4 +1,5 @@
 use Rattle.std.proofs.Common.{sym, ◌∙◌}
+use Rattle.std.proofs.lemmas.List.{set-get_or}
 use Rattle.std.proofs.lemmas.Nat.{one_shl}
 use Rattle.rows.proofs.Receiving.{heard_none, heard_in, heard_out}
 use Rattle.rows.proofs.taking.hear.Goals as goal
@@ -16,5 +17,6 @@ loop-m-preserved c =
           let s = one_shl c.args.sender 8 c.requires in cc
       | else-has_bit w ↦
           let e = heard_out c.args.heard.now c.args.sender c.args.set c.loop-m.m
-          (sym c.has_bit.ensures ∙ w.if-has_bit.false) in cc
+          (sym c.has_bit.ensures ∙ w.if-has_bit.false) in
+          w.heard-is ∙ set-get_or c.loop-m.heard c.loop-m.m 0 ∙ c.loop-m.invariant ∙ sym e
     ]

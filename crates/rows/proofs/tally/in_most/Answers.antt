@@ -1,22 +1,13 @@
-use Rattle.std.proofs.Common.{◌+◌, ◌/◌, ◌<◌, ◌≤◌, sym, arith}
-use Rattle.rows.specs.Proposals.{in_majority, holding}
-use Rattle.std.proofs.lemmas.Bool.{le-leb, lt-leb}
-use Rattle.rows.proofs.Masks.{those_none, those_in, those_out}
+use Rattle.std.proofs.Common.{◌≡◌, ◌≤◌, ◌/◌, ltb, leb, take, rules, sym, ap, ◌∙◌, add-one, arith}
+use Rattle.std.specs.List.{count_by}
+use Rattle.rows.specs.Masks.{has}
+use Rattle.rows.specs.Proposals.{in_majority}
+use Rattle.rows.specs.declared.row.Check.{Check}
+use Rattle.rows.proofs.Receiving.{holding_first}
 use Rattle.rows.proofs.tally.in_most.Goals as goal
-use Rattle.rows.proofs.tally.in_most.Goals.{then-holders-q, else-holders-q}
 
-pub loop-m-init : goal.loop-m-init
-loop-m-init c = sym (those_none (in_majority c.args.checks.now c.args.q))
-
-pub loop-m-preserved : goal.loop-m-preserved
-loop-m-preserved c =
-    elim c.if-holders-q.branch [
-      | then-holders-q w ↦
-          let h : c.args.q / 2 + 1 ≤ holding c.args.checks.now c.loop-m.m c.args.q =
-          omega (arith, c.holders.ensures.0) in
-          let e = those_in (in_majority c.args.checks.now c.args.q) c.loop-m.m (le-leb _ _ h) in cc
-      | else-holders-q w ↦
-          let h : holding c.args.checks.now c.loop-m.m c.args.q < c.args.q / 2 + 1 =
-          omega (arith, c.holders.ensures.0) in
-          let e = those_out (in_majority c.args.checks.now c.args.q) c.loop-m.m (lt-leb _ _ h) in cc
-    ]
+pub returns : goal.returns
+returns c = c.all_that.ensures (in_majority c.args.checks.now c.args.q) (λ m h b k.
+    let told : b ≡ ltb (c.args.q / 2) (count_by (λ (x : Check). has x.set m) (take c.args.q c.args.checks.now)) = search rules in
+    let e = holding_first c.args.checks.now m c.args.q (omega arith) in
+    told ∙ rw add-one (ap (leb _) (sym e)))
