@@ -1,5 +1,6 @@
 -- What holds of one of the numbers below a bound.
-use Rattle.std.proofs.Common.{◌≡◌, ℕ, zero, suc, ◌+◌, ◌<◌, Bool, true, false, ◌||◌, Decides, refl, ap, ◌∙◌, ⊎_elim, add-one, arith}
+use Rattle.std.proofs.Common.{◌≡◌, ℕ, zero, suc, ◌+◌, ◌<◌, Bool, true, false, ◌||◌, Decides, refl, ap, ◌∙◌, ⊎_elim, add-one}
+use Rattle.std.proofs.Common.{arith}
 use Rattle.std.proofs.Common.{sym, zero-add, add-zero}
 use Rattle.std.specs.List.{list_any, range_with_len}
 use Rattle.rows.specs.Masks.{any}

@@ -2,3 +2,4 @@ pub mod Anys
 pub mod Clashes
 pub mod Masks
 pub mod Receiving
+pub mod Writing

@@ -1,4 +1,4 @@
--- One turn of the loops that make sets, lists of members and sheets.
+-- Sets as a loop makes them, lists of members, and how long a sheet stays.
 use Rattle.std.proofs.Common.{◌≡◌, ℕ, zero, suc, ◌+◌, ◌*◌, ◌/◌, ◌^◌, ◌<◌, ◌≤◌, Bool, true, false, cond, not, eqb, leb, List, []}
 use Rattle.std.proofs.Common.{◌∷◌, ◌++◌, length, set, sym, refl, ap, ◌∙◌, ⊎_elim, add-zero, add_comm, one-mul, pow-suc, add-one}
 use Rattle.std.proofs.Common.{arith}
@@ -6,7 +6,7 @@ use native.Mathlib.Nat.{div-eq_of_lt}
 use lib.Bits.{bit_or, or_shifted_r}
 use Rattle.rows.specs.Masks.{has, added, those, members, put}
 use Rattle.std.proofs.lemmas.Nat.{pow_pos, le-div}
-use Rattle.std.proofs.lemmas.List.{append-nil, length-set}
+use Rattle.std.proofs.lemmas.List.{length-set}
 use Rattle.std.proofs.lemmas.Bool.{cases_lt, ne_eqb, eq-eqb, le-leb, lt-leb, cond-true, cond-false, cond_both}
 
 -- a set has a member from m on exactly if it is at least 2 ^ m
@@ -59,7 +59,7 @@ those_out p k t = those_more p k ∙ cond-false (p k) _ _ t
 -- ---- the members of a set
 
 -- one number more
-members_more : (x k : ℕ) → members x (k + 1) ≡ members x k ++ cond (has x k) (k ∷ []) []
+pub members_more : (x k : ℕ) → members x (k + 1) ≡ members x k ++ cond (has x k) (k ∷ []) []
 unfolding members
 members_more x k = rw add-one refl
 
@@ -67,22 +67,6 @@ members_more x k = rw add-one refl
 pub members_none : (x : ℕ) → members x 0 ≡ []
 unfolding members
 members_none x = refl
-
--- a member comes last
-pub members_in : (x k : ℕ) → has x k ≡ true → members x (k + 1) ≡ members x k ++ k ∷ []
-members_in x k t = members_more x k ∙ ap (λ (l : List ℕ). members x k ++ l) (cond-true (has x k) _ _ t)
-
--- any other number adds nothing
-pub members_out : (x k : ℕ) → has x k ≡ false → members x (k + 1) ≡ members x k
-members_out x k t = members_more x k ∙ ap (λ (l : List ℕ). members x k ++ l) (cond-false (has x k) _ _ t)
-    ∙ append-nil (members x k)
-
--- one more written at the end
-pub put_more : (xs : List ℕ) (place : ℕ) (ys : List ℕ) (y : ℕ)
-    → put xs place (ys ++ y ∷ []) ≡ set (put xs place ys) (place + length ys) y
-put_more xs place [] y = ap (λ k. set xs k y) (sym (add-zero place))
-put_more xs place (z ∷ ys) y = put_more (set xs place z) (place + 1) ys y
-    ∙ ap (λ k. set (put (set xs place z) (place + 1) ys) k y) (omega arith)
 
 -- writing keeps the length
 pub put_length : (xs : List ℕ) (place : ℕ) (ys : List ℕ) → length (put xs place ys) ≡ length xs

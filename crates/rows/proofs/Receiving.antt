@@ -1,16 +1,17 @@
 -- One turn of the loops that take a letter.
-use Rattle.std.proofs.Common.{◌≡◌, ℕ, zero, suc, ◌+◌, ◌≤◌, Bool, true, false, cond, ◌||◌, eqb, List, length, get_or, set, take, sym, refl, ap, ◌∙◌}
-use Rattle.std.proofs.Common.{add-one, add-zero, ◌++◌, ◌∷◌, [], ◌<◌, ⊎_elim, arith}
-use Rattle.std.specs.List.{list_any, count_by}
+use Rattle.std.proofs.Common.{◌≡◌, ℕ, zero, suc, ◌+◌, ◌≤◌, Bool, true, false, cond, ◌||◌, eqb, List, length, get_or, set, take}
+use Rattle.std.proofs.Common.{sym, refl, ap, ◌∙◌}
+use Rattle.std.proofs.Common.{add-one, ◌++◌, ◌∷◌, [], arith}
+use Rattle.std.specs.List.{list_any, count_by, sum_by}
 use Rattle.std.proofs.lemmas.List.{take_more}
 use Rattle.std.proofs.lemmas.List.Folds.{list_any-append}
-use Rattle.std.proofs.lemmas.List.Sums.{count_by_more_no, count_by_more_yes}
+use Rattle.std.proofs.lemmas.List.Sums.{sum_by_more}
 use Rattle.rows.specs.Masks.{has, added}
 use Rattle.rows.specs.Rows.{no_check}
 use Rattle.rows.specs.Receipts.{heard_from, from_sender}
 use Rattle.rows.specs.Proposals.{holding}
 use Rattle.rows.specs.declared.row.Check.{Check}
-use Rattle.std.proofs.lemmas.Bool.{cond-true, cond-false, cases_Bool}
+use Rattle.std.proofs.lemmas.Bool.{cond-true, cond-false}
 use mathlib.Core.Bool.{or-false}
 
 -- no message of the acknowledgement is heard at first
@@ -45,26 +46,23 @@ pub from_first : (cs : List Check) (s k : ℕ) → k ≤ length cs
 unfolding from_sender
 from_first cs s zero h = refl
 from_first cs s (suc k) h =
-    let t : Check → Bool = λ c. eqb c.sender s in
+    let test : Check → Bool = λ c. eqb c.sender s in
     let last : Check = get_or cs k no_check in
     let more : take (suc k) cs ≡ take k cs ++ last ∷ [] = rw add-one at (take_more cs k no_check (omega arith)) in
-    ap (λ b. b || t last) (from_first cs s k (omega arith))
-    ∙ sym (ap (list_any t) more ∙ list_any-append t (take k cs) (last ∷ []) ∙ ap (λ b. list_any t (take k cs) || b) (or-false (t last)))
+    let tested : list_any test (take (suc k) cs) ≡ (list_any test (take k cs) || (test last || false)) =
+    ap (list_any test) more ∙ list_any-append test (take k cs) (last ∷ []) in
+    ap (λ b. b || test last) (from_first cs s k (omega arith))
+    ∙ sym (tested ∙ ap (λ b. list_any test (take k cs) || b) (or-false (test last)))
 
 -- how many of the first checks have the message, as a slice of them tells
 pub holding_first : (cs : List Check) (m k : ℕ) → k ≤ length cs
     → holding cs m k ≡ count_by (λ (c : Check). has c.set m) (take k cs)
 holding_first cs m zero h = refl
 holding_first cs m (suc k) h =
-    let t : Check → Bool = λ c. has c.set m in
-    let inside : k < length cs = omega arith in
-    let before : holding cs m k ≡ count_by t (take k cs) = holding_first cs m k (omega arith) in
-    ⊎_elim
-    (λ e. let more : count_by t (take (suc k) cs) ≡ count_by t (take k cs) + 1 = rw add-one at (count_by_more_yes t cs k no_check inside e) in
-    ap (λ n. n + cond (t (get_or cs k no_check)) 1 0) before ∙ ap (λ n. count_by t (take k cs) + n) (cond-true _ 1 0 e) ∙ sym more)
-    (λ e. let more : count_by t (take (suc k) cs) ≡ count_by t (take k cs) = rw add-one at (count_by_more_no t cs k no_check inside e) in
-    ap (λ n. n + cond (t (get_or cs k no_check)) 1 0) before ∙ ap (λ n. count_by t (take k cs) + n) (cond-false _ 1 0 e) ∙ add-zero _ ∙ sym more)
-    (cases_Bool (t (get_or cs k no_check)))
+    let held : Check → ℕ = λ c. cond (has c.set m) 1 0 in
+    let more : sum_by held (take (suc k) cs) ≡ sum_by held (take k cs) + held (get_or cs k no_check) =
+    rw add-one at (sum_by_more held cs k no_check (omega arith)) in
+    ap (λ n. n + held (get_or cs k no_check)) (holding_first cs m k (omega arith)) ∙ sym more
 
 -- a last test that fails adds nothing
 pub or_last : (x y : Bool) → y ≡ false → (x || y) ≡ x

@@ -43,11 +43,8 @@ pub(crate) fn all_that<F: Fn(u8) -> bool>(passes: F) -> u64
 pub(crate) fn append(sheets: &mut [u8], place: usize, set: u64)
     ensures { sheets.new ≡ put sheets.old place (members set 64) }
 {
-    let mut at = place;
-    for m in 0..MOST_MESSAGES {
-        if has_bit(set, m) && at < sheets.len() {
-            sheets[at] = m;
-            at += 1;
-        }
+    let members = (0..MOST_MESSAGES).filter(|m| has_bit(set, *m));
+    for (at, m) in (place..sheets.len()).zip(members) {
+        sheets[at] = m;
     }
 }

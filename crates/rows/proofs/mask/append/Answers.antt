@@ -1,46 +1,46 @@
-use Rattle.std.proofs.Common.{◌≡◌, ℕ, ◌+◌, ◌≤◌, List, length, sym, refl, ap, ◌∙◌, arith}
-use Rattle.rows.specs.Masks.{members, put}
-use Rattle.rows.proofs.Masks.{members_none, members_in, members_out, put_more, put_length}
-use Rattle.std.proofs.lemmas.List.{length_push, set_past}
+use Rattle.std.proofs.Common.{rules, ℕ, ◌-◌, ◌∙◌, filter, length, refl, ap}
+use Rattle.std.specs.List.{zip, range_with_len}
+use borrow.Author.Tests.{tests}
+use Rattle.std.proofs.lemmas.Iterator.{YieldsList-from_range, YieldsList-from_zip}
+use Rattle.std.proofs.lemmas.Iterator.Consumers.{YieldsList-from_filter}
+use Rattle.rows.specs.Masks.{has, put}
+use Rattle.rows.proofs.Writing.{one_turn, no_turn, inside_zip, writes_zip, members_chain}
+use Rattle.rows.proofs.mask.append.Given as given
 use Rattle.rows.proofs.mask.append.Goals as goal
-use Rattle.rows.proofs.mask.append.Goals.{then-has_bit+then-at-sheets, else-has_bit}
-use Rattle.rows.proofs.mask.append.Goals.{else-has_bit-via-then-has_bit+else-at-sheets, else-has_bit-via-else-has_bit}
 
-pub loop-m-init : goal.loop-m-init
-loop-m-init c = simp members_none (refl, omega arith, λ _. omega arith)
+pub loop-at-init : goal.loop-at-init
+loop-at-init c =
+    let xs = c.args.sheets.now in
+    let free : ℕ = length xs - c.args.place in
+    let it = c.into_iter-at-iterator.ensures.into_iter_gives in
+    let places = ap (λ z. z.a) it ∙ c.zip-at-items.ensures.first in
+    let numbers = ap (λ z. z.b) it ∙ c.zip-at-items.ensures.second in (
+      search rules,
+      search rules,
+      (
+        zip (range_with_len c.args.place free) (filter (has c.args.set) (range_with_len 0 64)),
+        (YieldsList-from_zip (YieldsList-from_range c.args.place (length xs) free places refl)
+            (YieldsList-from_filter _ (has c.args.set)
+            (YieldsList-from_range 0 64 64 (ap (λ b. b.iter) numbers ∙ c.filter-members.ensures.source) refl)
+            (ap (λ b. b.p) numbers ∙ c.filter-members.ensures.closure) (λ x b q k. search (rules, tests)))).runs,
+        inside_zip (length xs) c.args.place free _ refl,
+        writes_zip xs c.args.place free _ refl ∙ ap (put xs c.args.place) (members_chain c.args.set 64),
+      ),
+    )
 
-pub loop-m-preserved : goal.loop-m-preserved
-loop-m-preserved c =
-    let x : ℕ = c.args.set in
-    let m : ℕ = c.loop-m.m in
-    let xs : List ℕ = c.args.sheets.now in
-    let k : ℕ = length (members x m) in
-    let kept : length c.loop-m.sheets ≡ length xs = c.loop-m.auto.sheets in
-    let more = put_more xs c.args.place (members x m) m in
-    let pushed = length_push (members x m) m in
-    elim c.if-has_bit.branch [
-      | then-has_bit+then-at-sheets w ↦
-          let e = members_in x m (sym c.has_bit.ensures ∙ w.if-has_bit.true) in
-          let n : length (members x (m + 1)) ≡ k + 1 = ap length e ∙ pushed in
-          let here : c.loop-m.at ≡ c.args.place + k = c.loop-m.invariant.2 (omega (arith, kept, w.if-at-sheets.true)) in
-          (cc, omega (arith, n, here, w.at-is), λ _. omega (arith, n, here, w.at-is))
-      | else-has_bit w ↦ elim w.else-has_bit.branch [
-        | else-has_bit-via-then-has_bit+else-at-sheets v ↦
-            let e = members_in x m (sym c.has_bit.ensures ∙ v.if-has_bit.true) in
-            let n : length (members x (m + 1)) ≡ k + 1 = ap length e ∙ pushed in
-            let past : length (put xs c.args.place (members x m)) ≤ c.args.place + k =
-            omega (arith, kept, v.if-at-sheets.false, c.loop-m.invariant.1, put_length xs c.args.place (members x m)) in
-            let same = set_past (put xs c.args.place (members x m)) (c.args.place + k) m past in (
-              cc,
-              omega (arith, n, w.at-is, c.loop-m.invariant.1),
-              λ l. absurd (omega (arith, l, w.at-is, kept, v.if-at-sheets.false)),
-            )
-        | else-has_bit-via-else-has_bit v ↦
-            let e = members_out x m (sym c.has_bit.ensures ∙ v.if-has_bit.false) in
-            let n : length (members x (m + 1)) ≡ k = ap length e in (
-              cc,
-              omega (arith, n, w.at-is, c.loop-m.invariant.1),
-              λ l. w.at-is ∙ c.loop-m.invariant.2 (omega (arith, l, w.at-is)) ∙ ap (λ j. c.args.place + j) (sym n),
-            )
-      ]
-    ]
+pub bounds-sheets-at : goal.bounds-sheets-at
+bounds-sheets-at c =
+    let told = c.loop-at.invariant.2 in
+    let turn = one_turn given.iterator-loop-at.next_gives c.loop-at.at-iterator c.next.new.self _ _ _ _ told in
+    rw c.loop-at.auto.sheets (turn c.in-Some.ensures.steps).0
+
+pub loop-at-preserved : goal.loop-at-preserved
+loop-at-preserved c =
+    let told = c.loop-at.invariant.2 in
+    let turn = one_turn given.iterator-loop-at.next_gives c.loop-at.at-iterator c.next.new.self _ _ _ _ told in
+    (search rules, search rules, (turn c.in-Some.ensures.steps).1)
+
+pub returns : goal.returns
+returns c =
+    let told = c.loop-at.invariant.2 in
+    no_turn given.iterator-loop-at.next_gives c.loop-at.at-iterator c.next.new.self _ _ _ told c.in-None.ensures.steps

@@ -1,4 +1,4 @@
-use Rattle.std.proofs.Common.{◌≡◌, ◌≤◌, ◌/◌, ltb, leb, take, rules, sym, ap, ◌∙◌, add-one, arith}
+use Rattle.std.proofs.Common.{◌≡◌, ◌/◌, ltb, leb, take, rules, sym, ap, ◌∙◌, add-one, arith}
 use Rattle.std.specs.List.{count_by}
 use Rattle.rows.specs.Masks.{has}
 use Rattle.rows.specs.Proposals.{in_majority}
