@@ -1,5 +1,5 @@
-ghost use Rattle.std.specs.Prelude.{◌≡◌, ◌+◌, ◌<◌, ◌≤◌, ℕ, Bool, length};
-ghost use Rattle.rows.specs.Masks.{has, added, minus, within, members, put, those};
+ghost use Rattle.std.specs.Prelude.{◌≡◌, ◌+◌, ◌*◌, ◌<◌, ℕ, Bool, count_ones};
+ghost use Rattle.rows.specs.Masks.{has, minus, within, members, put, those};
 
 // How many messages a mask has room for.
 pub(crate) const MOST_MESSAGES: u8 = 64;
@@ -28,7 +28,8 @@ pub(crate) fn is_within(a: u64, b: u64) -> bool
 // The set of the messages that pass the test.
 pub(crate) fn all_that<F: Fn(u8) -> bool>(passes: F) -> u64
     requires { (m : ℕ) → m < 64 → F.pre passes m }
-    ensures { (p : ℕ → Bool) → ((m : ℕ) → m < 64 → (b : Bool) → F.post passes m b → b ≡ p m) → result ≡ those p 64 }
+    ensures { (p : ℕ → Bool) →
+        ((m : ℕ) → m < 64 → (b : Bool) → F.post passes m b → b ≡ p m) → result ≡ those p 64 }
 {
     let mut found = 0u64;
     for m in 0..MOST_MESSAGES {
@@ -40,11 +41,19 @@ pub(crate) fn all_that<F: Fn(u8) -> bool>(passes: F) -> u64
 }
 
 // Writes the members of the set, lowest first, from the place on.
-pub(crate) fn append(sheets: &mut [u8], place: usize, set: u64)
+fn append(sheets: &mut [u8], place: usize, set: u64)
     ensures { sheets.new ≡ put sheets.old place (members set 64) }
 {
     let members = (0..MOST_MESSAGES).filter(|m| has_bit(set, *m));
     for (at, m) in (place..sheets.len()).zip(members) {
         sheets[at] = m;
     }
+}
+
+// Writes the members of the set on the sheet that begins at place 64 `at`, behind the messages that it has.
+pub(crate) fn extend_sheet(sheets: &mut [u8], at: u8, written: u64, set: u64)
+    ensures { sheets.new ≡ put sheets.old (64 * at + count_ones written) (members set 64) }
+{
+    let place = usize::from(MOST_MESSAGES) * usize::from(at) + written.count_ones() as usize;
+    append(sheets, place, set);
 }

@@ -12,7 +12,7 @@ pub enum Phase {
 }
 
 // A check that a node keeps: who sent it, and what that node had acknowledged when it closed the stage.
-#[derive(Clone, Copy)]
+#[derive(Clone, Copy, Default)]
 pub struct Check {
     pub sender: u8,
     pub set: u64,
@@ -34,6 +34,7 @@ pub struct Row {
     // for each message, the nodes heard acknowledging it in this stage
     pub heard: [u8; 64],
     // the checks of this stage that it keeps: the first `checked` of these
+    // Stays an array with a count beside it: there is no heap, and a row is copied whole
     pub checks: [Check; 7],
     pub checked: u8,
     pub phase: Phase,
@@ -53,7 +54,7 @@ impl Row {
             pending: 0,
             early: 0,
             heard: [0; 64],
-            checks: [Check { sender: 0, set: 0 }; 7],
+            checks: [Check::default(); 7],
             checked: 0,
             phase: Phase::Gathering,
             proposed: false,

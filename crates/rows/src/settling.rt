@@ -2,7 +2,7 @@ ghost use Rattle.std.specs.Prelude.{◌≡◌, ◌<◌};
 ghost use Rattle.chooser.specs.Meaning.{asked};
 ghost use Rattle.rows.specs.Settlements.{settled_row, settled_sheets, Settles};
 
-use crate::mask::{append, without};
+use crate::mask::{extend_sheet, without};
 use crate::refusal::Refusal;
 use crate::row::Row;
 use chooser::chooser::Chooser;
@@ -15,19 +15,10 @@ impl Row {
         ensures sheet { sheets.new ≡ settled_sheets decided self.old at sheets.old }
     {
         let (nonconflicting, conflicting) = decided;
-        let base = 64 * at as usize;
         let known = self.delivered | self.early;
-        append(
-            sheets,
-            base + known.count_ones() as usize,
-            without(nonconflicting, known),
-        );
+        extend_sheet(sheets, at, known, without(nonconflicting, known));
         let both = known | nonconflicting;
-        append(
-            sheets,
-            base + both.count_ones() as usize,
-            without(conflicting, both),
-        );
+        extend_sheet(sheets, at, both, without(conflicting, both));
         *self = Row::at_stage(self.stage + 1, self.received, both | conflicting);
     }
 

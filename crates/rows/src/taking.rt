@@ -5,7 +5,7 @@ ghost use Rattle.rows.specs.Receipts.{heard_from, from_sender, after_check, afte
 ghost use Rattle.rows.specs.Receipts.{from_another, relays};
 
 use crate::letter::{Letter, LetterKind};
-use crate::mask::{MOST_MESSAGES, append, has_bit, is_within, without};
+use crate::mask::{MOST_MESSAGES, extend_sheet, has_bit, is_within, without};
 use crate::row::{Check, Phase, Row};
 use crate::size::RingSize;
 use crate::tally::reached_by;
@@ -80,11 +80,7 @@ impl Row {
         hear(&mut self.heard, letter.sender, letter.set);
         let known = self.delivered | self.early;
         let fresh = without(reached_by(&self.heard, q), known);
-        append(
-            sheets,
-            64 * usize::from(at) + known.count_ones() as usize,
-            fresh,
-        );
+        extend_sheet(sheets, at, known, fresh);
         self.early |= fresh;
     }
 
