@@ -1,9 +1,9 @@
 -- A node's row: its parts, a setter for each of them, and the sets that a node works out.
-use Rattle.std.specs.Prelude.{ℕ, ◌+◌, ◌*◌, true, false, List, [], set, replicate, bit_or, count_ones}
+use Rattle.std.specs.Prelude.{ℕ, ◌+◌, ◌*◌, List, [], set, replicate, bit_or, count_ones}
 use Rattle.rows.specs.Masks.{minus}
 use Rattle.rows.specs.declared.row.Check.{Check}
 use Rattle.rows.specs.declared.row.Phase.{Phase}
-use Rattle.rows.specs.declared.row.Phase.TheVariants.{Gathering}
+use Rattle.rows.specs.declared.row.Phase.TheVariants.{Gathering, Proposed}
 use Rattle.rows.specs.declared.row.Row.{Row}
 
 -- an unused place among the checks
@@ -22,7 +22,6 @@ no_row = record {
   checks = [];
   checked = 0;
   phase = Gathering;
-  proposed = false;
 }
 
 -- ---- the sets that a node works out
@@ -41,7 +40,7 @@ sheet_end at row = 64 * at + count_ones (on_sheet row)
 
 -- ---- rows
 
--- at the beginning of a stage: nothing acknowledged, heard, kept or proposed
+-- at the beginning of a stage: nothing acknowledged, heard or kept, and nothing proposed
 abbrev pub at_stage : ℕ → ℕ → ℕ → Row
 at_stage stage received delivered = record {
   stage = stage;
@@ -53,7 +52,6 @@ at_stage stage received delivered = record {
   checks = replicate 7 no_check;
   checked = 0;
   phase = Gathering;
-  proposed = false;
 }
 
 -- at the start
@@ -72,7 +70,6 @@ with_received x row = record {
   checks = row.checks;
   checked = row.checked;
   phase = row.phase;
-  proposed = row.proposed;
 }
 
 -- with another pending set
@@ -87,7 +84,6 @@ with_pending x row = record {
   checks = row.checks;
   checked = row.checked;
   phase = row.phase;
-  proposed = row.proposed;
 }
 
 -- with other nodes heard, and another early set
@@ -102,7 +98,6 @@ with_heard heard early row = record {
   checks = row.checks;
   checked = row.checked;
   phase = row.phase;
-  proposed = row.proposed;
 }
 
 -- with one check more
@@ -117,7 +112,6 @@ with_check c row = record {
   checks = set row.checks row.checked c;
   checked = row.checked + 1;
   phase = row.phase;
-  proposed = row.proposed;
 }
 
 -- in another phase
@@ -132,20 +126,8 @@ with_phase phase row = record {
   checks = row.checks;
   checked = row.checked;
   phase = phase;
-  proposed = row.proposed;
 }
 
 -- having proposed
 abbrev pub with_proposed : Row → Row
-with_proposed row = record {
-  stage = row.stage;
-  received = row.received;
-  delivered = row.delivered;
-  pending = row.pending;
-  early = row.early;
-  heard = row.heard;
-  checks = row.checks;
-  checked = row.checked;
-  phase = row.phase;
-  proposed = true;
-}
+with_proposed row = with_phase Proposed row

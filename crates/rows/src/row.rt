@@ -4,11 +4,13 @@ ghost use Rattle.rows.specs.declared.row.Phase.TheVariants.{Closing};
 
 use crate::mask::without;
 
-// A node gathers messages and acknowledgements until it finds a conflict; then it closes its stage.
+// A node gathers messages and acknowledgements until it finds a conflict; then it closes its stage, and once it keeps
+// enough checks it proposes.
 #[derive(Clone, Copy, Debug, PartialEq, Eq)]
 pub enum Phase {
     Gathering,
     Closing,
+    Proposed,
 }
 
 // A check that a node keeps: who sent it, and what that node had acknowledged when it closed the stage.
@@ -38,8 +40,6 @@ pub struct Row {
     pub checks: [Check; 7],
     pub checked: u8,
     pub phase: Phase,
-    // whether it has proposed in this stage
-    pub proposed: bool,
 }
 
 impl Row {
@@ -57,7 +57,6 @@ impl Row {
             checks: [Check::default(); 7],
             checked: 0,
             phase: Phase::Gathering,
-            proposed: false,
         }
     }
 
