@@ -13,26 +13,10 @@ use replay::tally::Tally;
 use replay::whole_day::run_day;
 use ring::ring::Ring;
 use ring::tables::{Tables, TablesMut};
-use rows::letter::{EMPTY, Letter};
+use rows::letter::Letter;
 use rows::size::RingSize;
 use schedule::reader::Reader;
 use std::alloc::{AllocError, Global};
-
-const NO_LETTER: Letter = Letter {
-    sender: 0,
-    receiver: 0,
-    kind: 0,
-    mark: EMPTY,
-    stage: 0,
-    set: 0,
-};
-
-const NO_COMMAND: Command = Command {
-    verb: 0,
-    subject: 0,
-    day: 0,
-    amount: 0,
-};
 
 // The lines of a day that was run: its nodes, its counts, and the fault that ended it, if one did.
 fn day_lines(
@@ -67,8 +51,8 @@ pub fn day_text<R: Record, C: Chooser>(
     ensures { IfOk result (λ s. Printed R.Record.kind size reader.entry.bytes.now reader.entry.place
         (C.Chooser.meaning chooser.old) (string_bytes s)) }
 {
-    let mut tray = [NO_LETTER; 1024];
-    let mut book = [NO_COMMAND; 64];
+    let mut tray = [Letter::default(); 1024];
+    let mut book = [Command::default(); 64];
     let mut sheets = [0u8; 448];
     let mut tables = TablesMut {
         tray: &mut tray,

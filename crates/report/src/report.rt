@@ -12,7 +12,6 @@ use record::kitty::Kitty;
 use record::pair::Pair;
 use record::record::Record;
 use record::rounds::Rounds;
-use rows::refusal::Refusal;
 use rows::size::RingSize;
 use schedule::header::{ChooserKind, Header, RecordKind};
 use schedule::reader::Reader;
@@ -20,19 +19,6 @@ use std::alloc::{AllocError, Global};
 
 // The most bytes that a day may have.
 const MOST_BYTES: usize = 4096;
-
-// A ring size of the two numbers of a header.
-fn size_of(n: u16, q: u16) -> Result<RingSize, Refusal>
-    ensures { Sized n q result }
-{
-    if n == 0 || n > 7 {
-        return Err(Refusal::NodesOutOfRange);
-    }
-    if q > n {
-        return Err(Refusal::QuorumTooLarge);
-    }
-    RingSize::new(n as u8, q as u8)
-}
 
 // The text of a day with this chooser, by its kind of record.
 fn with_chooser<C: Chooser>(
@@ -84,7 +70,7 @@ fn with_header(heap: Global, reader: Reader<'_>, header: Header) -> Result<Strin
     ensures { IfOk result (λ s. BySize (size_refusal header.n header.q) header reader.entry.bytes.now
         reader.entry.place (string_bytes s)) }
 {
-    match size_of(header.n, header.q) {
+    match RingSize::new(header.n, header.q) {
         Ok(size) => with_size(heap, reader, header, size),
         Err(refusal) => start_line(heap, refusal),
     }

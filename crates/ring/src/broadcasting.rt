@@ -5,7 +5,7 @@ use crate::ring::Ring;
 use crate::tables::TablesMut;
 use record::command::Command;
 use record::record::Record;
-use rows::letter::{DATA, Letter, TRAVELLING};
+use rows::letter::Letter;
 use rows::refusal::Refusal;
 
 const MOST_MESSAGES: u8 = 64;
@@ -33,14 +33,7 @@ impl Ring {
         if message >= MOST_MESSAGES {
             return Err(Refusal::BookFull);
         }
-        let letter = Letter {
-            sender: node,
-            receiver: 0,
-            kind: DATA,
-            mark: TRAVELLING,
-            stage: 0,
-            set: 1u64 << message,
-        };
+        let letter = Letter::data(node, 1u64 << message);
         self.send(size, tables.tray, letter)?;
         tables.book[usize::from(message)] = command;
         self.broadcasters[usize::from(message)] = node;

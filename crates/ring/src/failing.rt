@@ -3,7 +3,7 @@ ghost use Rattle.ring.specs.Fail.{Crashes, Loses};
 
 use crate::ring::Ring;
 use crate::tables::TablesMut;
-use rows::letter::LOST;
+use rows::letter::Mark;
 use rows::refusal::Refusal;
 
 impl Ring {
@@ -31,7 +31,7 @@ impl Ring {
         {
             return Err(Refusal::NobodyCrashed);
         }
-        tables.tray[place].mark = LOST;
+        tables.tray[place].mark = Mark::Lost.into();
         Ok(())
     }
 }

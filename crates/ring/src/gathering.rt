@@ -7,7 +7,7 @@ use crate::step::Step;
 use crate::tables::TablesMut;
 use record::record::Record;
 use rows::conflict::find_conflict;
-use rows::letter::{ACKNOWLEDGEMENT, CHECK, Letter, TRAVELLING};
+use rows::letter::Letter;
 use rows::refusal::Refusal;
 use rows::size::RingSize;
 
@@ -33,26 +33,15 @@ impl Ring {
         if undelivered & !row.pending == 0 {
             return Err(Refusal::NothingNew);
         }
-        let acknowledgement = Letter {
-            sender: node,
-            receiver: 0,
-            kind: ACKNOWLEDGEMENT,
-            mark: TRAVELLING,
-            stage: row.stage,
-            set: undelivered,
-        };
         match find_conflict::<R>(tables.view().book, undelivered) {
             None => {
+                let acknowledgement = Letter::acknowledgement(node, row.stage, undelivered);
                 self.send(size, tables.tray, acknowledgement)?;
                 self.nodes[usize::from(node)].row.acknowledge();
                 Ok(Step::Acknowledged)
             }
             Some((a, b)) => {
-                let check = Letter {
-                    kind: CHECK,
-                    set: row.pending,
-                    ..acknowledgement
-                };
+                let check = Letter::check(node, row.stage, row.pending);
                 self.send(size, tables.tray, check)?;
                 self.nodes[usize::from(node)].row.close();
                 Ok(Step::Closed(a, b))

@@ -4,7 +4,7 @@ ghost use Rattle.ring.specs.Receive.{Relays, Receives};
 
 use crate::ring::Ring;
 use crate::tables::{Tables, TablesMut};
-use rows::letter::{DATA, Letter, TAKEN, TRAVELLING};
+use rows::letter::{Letter, Mark};
 use rows::refusal::Refusal;
 use rows::size::RingSize;
 
@@ -25,7 +25,7 @@ impl Ring {
             return Err(Refusal::PlaceUnused);
         }
         let letter = tables.tray[place];
-        if letter.mark != TRAVELLING {
+        if letter.mark != u8::from(Mark::Travelling) {
             return Err(Refusal::NotTravelling);
         }
         if letter.is_spoilt(size.n, self.messages) {
@@ -44,15 +44,7 @@ impl Ring {
         if !row.must_relay(&self.broadcasters, letter) {
             return Ok(());
         }
-        let copy = Letter {
-            sender: letter.receiver,
-            receiver: 0,
-            kind: DATA,
-            mark: TRAVELLING,
-            stage: 0,
-            set: letter.set,
-        };
-        self.send(size, tray, copy)?;
+        self.send(size, tray, Letter::data(letter.receiver, letter.set))?;
         Ok(())
     }
 
@@ -75,7 +67,7 @@ impl Ring {
         }
         self.relay(size, tables.tray, letter)?;
         tables.tray[place] = Letter {
-            mark: TAKEN,
+            mark: Mark::Taken.into(),
             ..letter
         };
         self.nodes[receiver]

@@ -7,7 +7,7 @@ use crate::ring::Ring;
 use crate::tables::TablesMut;
 use chooser::chooser::Chooser;
 use record::command::Command;
-use rows::letter::{EMPTY, Letter};
+use rows::letter::Letter;
 use rows::refusal::Refusal;
 use rows::size::RingSize;
 
@@ -53,20 +53,8 @@ impl Ring {
         if is_in_use(chooser) {
             return Err(Refusal::ChooserInUse);
         }
-        tables.tray.fill(Letter {
-            sender: 0,
-            receiver: 0,
-            kind: 0,
-            mark: EMPTY,
-            stage: 0,
-            set: 0,
-        });
-        tables.book.fill(Command {
-            verb: 0,
-            subject: 0,
-            day: 0,
-            amount: 0,
-        });
+        tables.tray.fill(Letter::default());
+        tables.book.fill(Command::default());
         tables.sheets.fill(0);
         *self = Ring::of_size(size);
         Ok(())

@@ -53,16 +53,6 @@ pub(crate) const UNLAWFUL: Command = Command {
     amount: 1,
 };
 
-// An empty place of a tray.
-pub(crate) const NO_LETTER: Letter = Letter {
-    sender: 0,
-    receiver: 0,
-    kind: 0,
-    mark: 0,
-    stage: 0,
-    set: 0,
-};
-
 // Tables that are lent to a call.
 pub(crate) fn lend<'a>(
     tray: &'a mut [Letter],
@@ -85,7 +75,7 @@ impl Desk {
     pub(crate) fn new() -> Desk {
         Desk {
             ring: Ring::new(),
-            tray: [NO_LETTER; 24],
+            tray: [Letter::default(); 24],
             book: [UNLAWFUL; 64],
             sheets: [7; 448],
             chooser: FirstCome::new(),
@@ -93,7 +83,7 @@ impl Desk {
     }
 
     // After the start of a ring of n nodes with quorum q.
-    pub(crate) fn started(n: u8, q: u8) -> Result<Desk, Refusal> {
+    pub(crate) fn started(n: u16, q: u16) -> Result<Desk, Refusal> {
         let size = RingSize::new(n, q)?;
         let mut desk = Desk::new();
         desk.start(size)?;

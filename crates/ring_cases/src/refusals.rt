@@ -82,7 +82,7 @@ fn broadcast_into(desk: &mut Desk, tray: &mut [Letter; 64]) -> u8 {
 #[test]
 fn full_book(rt: HostRuntime) -> Result<(), Fail> {
     let mut desk = Desk::started(1, 1)?;
-    let mut tray = [NO_LETTER; 64];
+    let mut tray = [Letter::default(); 64];
     for _ in 0..64 {
         assert_eq!(rt; broadcast_into(&mut desk, &mut tray), 0);
     }
@@ -103,7 +103,7 @@ fn wrong_tables(rt: HostRuntime) -> Result<(), Fail> {
         4
     );
     assert_eq!(rt; number_of(ring.show(short.view(), 9)), 4);
-    let mut long = [NO_LETTER; 4097];
+    let mut long = [Letter::default(); 4097];
     let mut tables = lend(&mut long, &mut desk.book, &mut desk.sheets);
     assert_eq!(rt; number_of(ring.receive(&mut tables, 9)), 4);
     let mut tables = lend(&mut desk.tray, &mut desk.book[0..0], &mut desk.sheets);

@@ -8,7 +8,7 @@ use std::test::Fail;
 // Nodes, quorum, and the number that making the size answers.
 #[test]
 fn sizes(rt: HostRuntime) {
-    let cases: [(u8, u8, u8); 14] = [
+    let cases: [(u16, u16, u8); 14] = [
         (0, 0, 1),
         (0, 1, 1),
         (8, 8, 1),
