@@ -2,6 +2,8 @@
 #![tactic(auto)]
 
 #[cfg(test)]
+mod another_rule;
+#[cfg(test)]
 mod first_come;
 #[cfg(test)]
 mod lowest_of;
