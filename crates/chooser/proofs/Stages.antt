@@ -1,5 +1,6 @@
 -- A stage, and what one more proposal makes of it.
-use Rattle.std.proofs.Common.{◌≡◌, ℕ, ◌+◌, ◌<◌, ◌≤◌, true, false, ◌==◌, List, [], ◌∷◌, take, set, sym, refl, arith, length-take-le}
+use Rattle.std.proofs.Common.{◌≡◌, ℕ, ◌+◌, ◌<◌, ◌≤◌, true, false, ◌==◌, List, [], ◌∷◌, take, set, sym, refl, arith}
+use Rattle.std.proofs.Common.{length-take-le}
 use Rattle.std.specs.List.{list_any}
 use Rattle.std.proofs.lemmas.List.{take_more_set}
 use Rattle.chooser.specs.Arrivals.{apart}
