@@ -1,10 +1,13 @@
 -- A walk that lists entry after entry.
-use Rattle.std.proofs.Common.{◌≡◌, ℕ, zero, suc, ◌+◌, ◌<◌, ◌≤◌, true, false, eqb, List, [], ◌++◌, length, Ok, Err, sym, refl, ap}
+use Rattle.std.proofs.Common.{◌≡◌, ℕ, zero, suc, ◌+◌, ◌<◌, ◌≤◌, true, false, eqb, List, [], ◌++◌, length, Ok, Err, Result, Some, sym, refl, ap}
 use Rattle.std.proofs.Common.{◌∙◌, arith}
 use Rattle.std.proofs.lemmas.List.{append_assoc, append-nil}
 use Rattle.std.proofs.lemmas.Bool.{cond-true, cond-false, eqb-false}
 use Rattle.schedule.specs.declared.fault.EntryFault.{EntryFault}
-use Rattle.schedule.specs.Entries.{Act, entry_at}
+use Rattle.schedule.specs.declared.entry.Entry.{Entry}
+use Rattle.schedule.specs.declared.reader.Reader.{Reader}
+use Rattle.schedule.specs.Entries.{Act, act_of, entry_at}
+use Rattle.schedule.specs.Readings.{NextEntry}
 use Rattle.listing.specs.Lines.{act_line, fault_line, with_rest, lines_from, listing_of}
 
 -- the text so far and the lines that are left make the whole, where enough entries are allowed for
@@ -40,7 +43,7 @@ module _ (bytes : List ℕ) (p : ℕ) (text text' whole : List ℕ) (left : eqb 
   lines_next k = cond-false (eqb p (length bytes)) _ _ left
 
   -- an entry more
-  pub walked_on : (a : Act) (q : ℕ) → p < q → q ≤ length bytes → entry_at bytes p ≡ Ok (a, q) →
+  walked_on : (a : Act) (q : ℕ) → p < q → q ≤ length bytes → entry_at bytes p ≡ Ok (a, q) →
       text' ≡ text ++ act_line a → Walked bytes p text whole → Walked bytes q text' whole
   walked_on a q h l e t w = from w.most w.enough w.sum
     where
@@ -56,7 +59,7 @@ module _ (bytes : List ℕ) (p : ℕ) (text text' whole : List ℕ) (left : eqb 
       }
 
   -- a fault
-  pub walked_out : (f : EntryFault) → entry_at bytes p ≡ Err f → text' ≡ text ++ fault_line f →
+  walked_out : (f : EntryFault) → entry_at bytes p ≡ Err f → text' ≡ text ++ fault_line f →
       Walked bytes p text whole → text' ≡ whole
   walked_out f e t w = from w.most w.enough w.sum
     where
@@ -64,3 +67,34 @@ module _ (bytes : List ℕ) (p : ℕ) (text text' whole : List ℕ) (left : eqb 
       from zero n s = absurd (let z : ⊥ = eqb-false p (length bytes) left (omega (arith, w.within)) in z)
       from (suc k) n s =
           t ∙ (ap (λ x. text ++ x) (sym (lines_next k ∙ ap (with_rest (lines_from k bytes)) e)) ∙ s)
+
+-- the line of what was read
+abbrev pub read_line : Result Entry EntryFault → List ℕ
+read_line (Ok e) = act_line (act_of e)
+read_line (Err f) = fault_line f
+
+-- one line more; behind a fault nothing is left
+pub walked_next : (r : Result Entry EntryFault) (old new : Reader) (bytes text text' whole : List ℕ) →
+    NextEntry old (Some r) new → old.bytes.now ≡ bytes → text' ≡ text ++ read_line r →
+    Walked bytes old.place text whole → (new.bytes.now ≡ bytes) × Walked bytes new.place text' whole
+walked_next (Ok e) old new bytes text text' whole n b t w =
+    let same : new.bytes.now ≡ bytes = ap (λ x. x.now) n.bytes ∙ b in
+    let left : eqb old.place (length bytes) ≡ false = sym (ap (λ x. eqb old.place (length x)) b) ∙ n.end in
+    let read : entry_at bytes old.place ≡ Ok (act_of e, new.place) = sym (ap (λ x. entry_at x old.place) b) ∙ n.read.0 in (
+      same,
+      walked_on bytes old.place text text' whole left (act_of e) new.place n.read.1
+          (omega (arith, new.within, ap length same)) read t w,
+    )
+walked_next (Err f) old new bytes text text' whole n b t w =
+    let same : new.bytes.now ≡ bytes = ap (λ x. x.now) n.bytes ∙ b in
+    let left : eqb old.place (length bytes) ≡ false = sym (ap (λ x. eqb old.place (length x)) b) ∙ n.end in
+    let read : entry_at bytes old.place ≡ Err f = sym (ap (λ x. entry_at x old.place) b) ∙ n.read.0 in
+    let end : new.place ≡ length bytes = n.read.1 ∙ ap length b in (
+      same,
+      record {
+        within = omega arith;
+        most = 0;
+        enough = omega arith;
+        sum = append-nil text' ∙ walked_out bytes old.place text text' whole left f read t w;
+      },
+    )

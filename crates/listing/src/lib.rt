@@ -3,4 +3,5 @@
 
 pub mod entry_text;
 pub mod fault_text;
+mod layers;
 pub mod listing;

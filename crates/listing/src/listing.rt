@@ -11,19 +11,12 @@ pub fn listing_of(heap: Global, bytes: &[u8]) -> Result<String, AllocError>
     ensures { IfOk result (λ s. string_bytes s ≡ listing_of bytes.now) }
 {
     let mut text = String::new(heap);
-    let mut reader = Reader::new(bytes);
-    while !reader.is_done() {
-        match reader.entry() {
-            Ok(entry) => {
-                let line = entry_line(heap, entry)?;
-                text.push_str(line.as_str())?;
-            }
-            Err(fault) => {
-                let line = fault_line(heap, fault)?;
-                text.push_str(line.as_str())?;
-                return Ok(text);
-            }
-        }
+    for read in Reader::new(bytes).entries() {
+        let line = match read {
+            Ok(entry) => entry_line(heap, entry)?,
+            Err(fault) => fault_line(heap, fault)?,
+        };
+        text.push_str(line.as_str())?;
     }
     Ok(text)
 }

@@ -11,13 +11,16 @@ use Rattle.schedule.specs.declared.draft.Draft.TheVariants.{Broadcast}
 use Rattle.schedule.specs.declared.fault.CommandFault.TheVariants.{BadNumber, BytesLeft}
 use Rattle.schedule.specs.declared.fault.EntryFault.TheVariants.{InNumber, InCommand, BodyTooLong}
 use Rattle.schedule.specs.Numbers.{spell, number_at}
+use Rattle.schedule.specs.declared.kind.EntryKind.{EntryKind}
+use Rattle.schedule.specs.declared.kind.EntryKind.TheVariants as kinds
 use Rattle.schedule.specs.Commands.{command_at, command_of}
+use Rattle.schedule.specs.Kinds.{entry_kind, number_of_kind, kind_at}
 use Rattle.schedule.specs.Entries.{Act, broadcast, receive, step, crash, lose}
-use Rattle.schedule.specs.Entries.{single_at, body_at, broadcast_at, entry_at}
+use Rattle.schedule.specs.Entries.{single_at, body_at, broadcast_at, act_at, entry_at}
 use Rattle.schedule.specs.Drafts.{raised, fields, spelled, numbers_of, spelling, within, act_drafted, draft_of}
 use Rattle.schedule.proofs.ByteLists.{AllBytes}
 use Rattle.schedule.specs.Laws.{OneSpelling}
-use Rattle.schedule.proofs.Steps.{through_ok, cond_is, err_ok, same_ok, by_kind}
+use Rattle.schedule.proofs.Steps.{through_ok, cond_is, err_ok, same_ok, kind_ok, entry_kind_number}
 use Rattle.schedule.proofs.Once.{read_once}
 
 -- the bytes of a command that was read are those of its four numbers
@@ -77,7 +80,7 @@ single_once limit k make bytes p q x l f m w n e h =
     subst (Spelled bytes p) s (w v.0 r.1, m v.0, bytes-are)
 
 -- a body that was read holds the bytes of its command, and is as long
-body_once : (n p : ℕ) (bytes : List ℕ) (x : (Command × List ℕ) × ℕ) → AllBytes bytes → body_at bytes n p ≡ Ok x →
+body_once : (n p : ℕ) (bytes : List ℕ) (x : (Command × List ℕ) × ℕ) → AllBytes bytes → body_at n bytes p ≡ Ok x →
     (spelled (fields x.0.0) ≡ x.0.1) × (n ≡ length (spelled (fields x.0.0)))
     × (drop p bytes ≡ spelled (fields x.0.0) ++ drop x.1 bytes)
 body_once n p bytes x f e = ⊎_elim
@@ -110,7 +113,7 @@ broadcast_once bytes p q x f e h =
     let node : ℕ × ℕ = g.0 in
     let g2 = through_ok InNumber (number_at 65535 bytes node.1) _ x g.2 in
     let n : ℕ × ℕ = g2.0 in
-    let g3 = through_ok (λ f. f) (body_at bytes n.0 n.1) _ x g2.2 in
+    let g3 = through_ok (λ f. f) (body_at n.0 bytes n.1) _ x g2.2 in
     let b : (Command × List ℕ) × ℕ = g3.0 in
     let c : Command = b.0.0 in
     let s : ◌≡◌ {A = Act × ℕ} (broadcast node.0 c b.0.1, b.1) x = same_ok _ _ g3.2 in
@@ -129,22 +132,26 @@ broadcast_once bytes p q x f e h =
     subst (Spelled bytes p) s
     (le-leb node.0 255 r1.1, ap (λ l. broadcast node.0 c l) r3.0, bytes-are)
 
+-- what follows a kind, behind the number of the kind
+act_once : (k : EntryKind) (bytes : List ℕ) (p q : ℕ) (x : Act × ℕ) → AllBytes bytes →
+    drop p bytes ≡ spell (number_of_kind k) ++ drop q bytes → act_at k bytes q ≡ Ok x → Spelled bytes p x
+act_once kinds.Broadcast bytes p q x f e h = broadcast_once bytes p q x f e h
+act_once kinds.Receive bytes p q x f e h =
+    single_once 65535 2 receive bytes p q x (omega arith) f (λ v. refl) (λ v l. le-leb v 65535 l) (λ v. refl) e h
+act_once kinds.Step bytes p q x f e h =
+    single_once 255 3 step bytes p q x (omega arith) f (λ v. refl) (λ v l. le-leb v 255 l) (λ v. refl) e h
+act_once kinds.Crash bytes p q x f e h =
+    single_once 255 4 crash bytes p q x (omega arith) f (λ v. refl) (λ v l. le-leb v 255 l) (λ v. refl) e h
+act_once kinds.Lose bytes p q x f e h =
+    single_once 65535 5 lose bytes p q x (omega arith) f (λ v. refl) (λ v l. le-leb v 65535 l) (λ v. refl) e h
+
 -- where an entry is read, the bytes stand that are written for it
 pub entry_once : (bytes : List ℕ) (p : ℕ) (x : Act × ℕ) → AllBytes bytes → entry_at bytes p ≡ Ok x →
     OneSpelling bytes p x.0 x.1
 entry_once bytes p x f e =
-    let g = through_ok InNumber (number_at 255 bytes p) _ x e in
-    let k : ℕ × ℕ = g.0 in
-    let q = k.1 in
-    let r = read_once 255 p k.0 q bytes (omega arith) f g.1 in
-    let at : (j : ℕ) → k.0 ≡ j → drop p bytes ≡ spell j ++ drop q bytes =
-    λ j i. r.0 ∙ ap (λ a. spell a ++ drop q bytes) i in
-    let byte : (v : ℕ) → v ≤ 255 → leb v 255 ≡ true = λ v l. le-leb v 255 l in
-    let pair : (v : ℕ) → v ≤ 65535 → leb v 65535 ≡ true = λ v l. le-leb v 65535 l in
-    by_kind (Spelled bytes p x) k.0 bytes p q x
-    (λ i h. broadcast_once bytes p q x f (at 1 i) h)
-    (λ i h. single_once 65535 2 receive bytes p q x (omega arith) f (λ v. refl) pair (λ v. refl) (at 2 i) h)
-    (λ i h. single_once 255 3 step bytes p q x (omega arith) f (λ v. refl) byte (λ v. refl) (at 3 i) h)
-    (λ i h. single_once 255 4 crash bytes p q x (omega arith) f (λ v. refl) byte (λ v. refl) (at 4 i) h)
-    (λ i h. single_once 65535 5 lose bytes p q x (omega arith) f (λ v. refl) pair (λ v. refl) (at 5 i) h)
-    g.2
+    let g = through_ok (λ f. f) (kind_at entry_kind bytes p) _ x e in
+    let k : EntryKind × ℕ = g.0 in
+    let h = kind_ok entry_kind bytes p k g.1 in
+    let r = read_once 255 p h.0 k.1 bytes (omega arith) f h.1 in
+    let number : h.0 ≡ number_of_kind k.0 = entry_kind_number h.0 k.0 h.2 in
+    act_once k.0 bytes p k.1 x f (r.0 ∙ ap (λ n. spell n ++ drop k.1 bytes) number) g.2

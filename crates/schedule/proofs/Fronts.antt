@@ -1,8 +1,8 @@
 -- The number at the front of bytes that are known.
-use Rattle.std.proofs.Common.{◌≡◌, ℕ, suc, ◌+◌, ◌*◌, ◌%◌, ◌<◌, ◌≤◌, true, ltb, List, [], ◌∷◌, length, get_or, drop, is_some, Some}
+use Rattle.std.proofs.Common.{◌≡◌, ℕ, suc, ◌+◌, ◌*◌, ◌%◌, ◌<◌, ◌≤◌, Bool, true, false, cond, ◌||◌, ltb, List, [], ◌∷◌, length, get_or, is_some, Some}
 use Rattle.std.proofs.Common.{None, Option, sym, refl, ap, ◌∙◌, ⊎_elim, arith}
 use Rattle.std.proofs.lemmas.Bool.{lt-ltb, le-ltb, cond-true, cond-false, cases_lt}
-use Rattle.std.proofs.lemmas.List.{at_drop_more}
+use Rattle.std.specs.List.{list_any}
 use Rattle.schedule.specs.Numbers.{front, below, Longer}
 
 -- a byte without the top bit is a number
@@ -18,20 +18,16 @@ some_below : (g : ℕ) (o : Option (ℕ × ℕ)) → is_some (below g o) ≡ is_
 some_below g None = refl
 some_below g (Some t) = refl
 
--- a byte without the top bit ends a number
-pub ends_here : (xs : List ℕ) (i : ℕ) → i < length xs → get_or xs i 0 < 128 →
-    is_some (front (drop i xs)) ≡ true
-ends_here xs i l h =
-    at_drop_more (λ ys. is_some (front ys)) xs i 0 l
-    ∙ ap is_some (front_last (get_or xs i 0) (drop (i + 1) xs) h)
+-- whether a number ends here or later
+some_last : (last : Bool) (b : ℕ) (o : Option (ℕ × ℕ)) →
+    is_some (cond last (Some (b, 1)) (below (b % 128) o)) ≡ (last || is_some o)
+some_last true b o = refl
+some_last false b o = some_below (b % 128) o
 
--- past a byte with the top bit, a number ends as it did
-pub ends_later : (xs : List ℕ) (i : ℕ) → i < length xs → 128 ≤ get_or xs i 0 →
-    is_some (front (drop i xs)) ≡ is_some (front (drop (i + 1) xs))
-ends_later xs i l h =
-    at_drop_more (λ ys. is_some (front ys)) xs i 0 l
-    ∙ (ap is_some (front_more (get_or xs i 0) (drop (i + 1) xs) h)
-    ∙ some_below (get_or xs i 0 % 128) (front (drop (i + 1) xs)))
+-- a number ends exactly if some byte has no top bit
+pub some_front : (bs : List ℕ) → is_some (front bs) ≡ list_any (λ b. ltb b 128) bs
+some_front [] = refl
+some_front (b ∷ bs) = some_last (ltb b 128) b (front bs) ∙ ap (λ r. ltb b 128 || r) (some_front bs)
 
 -- a number of one group, by the byte at its place
 pub front_1 : (xs : List ℕ) → 0 < length xs → get_or xs 0 0 < 128 → front xs ≡ Some (get_or xs 0 0, 1)

@@ -1,8 +1,8 @@
 -- What a number is read as.
 use Rattle.std.proofs.Common.{◌≡◌, ℕ, ◌+◌, ◌<◌, ◌≤◌, true, false, not, leb, List, drop, is_some, Some, None, Ok, Err, Option}
 use Rattle.std.proofs.Common.{refl, ap, ⊎_elim, arith}
-use Rattle.std.proofs.lemmas.Bool.{lt-leb, le-leb, leb-true, cond-true, cond-false, cases_Bool, and_left, and_right, and_from}
-use Rattle.std.proofs.lemmas.Bool.{and_parts, not-true, not_from_true, not_from_false}
+use Rattle.std.proofs.lemmas.Bool.{lt-leb, leb-true, cond-true, cond-false, cases_Bool, and_left, and_right}
+use Rattle.std.proofs.lemmas.Bool.{and_parts, not-true, not_from_true}
 use Rattle.schedule.specs.declared.fault.NumberFault.TheVariants.{CutShort, Unfit}
 use Rattle.schedule.specs.Numbers.{front, overlong, judged, fit, number_at, Longer}
 use Rattle.schedule.proofs.Large.{longer_large}
@@ -19,14 +19,9 @@ module _ (limit p : ℕ) (bs : List ℕ) where
   judged_cut None e = refl
   judged_cut (Some t) e = let z : ◌≡◌ {A = ℕ} 0 1 = cc in absurd (let y : ⊥ = omega arith in y)
 
-  -- a number above its limit is unfit
-  pub judged_above : (t : ℕ × ℕ) → limit < t.0 → judged limit p bs (Some t) ≡ Err (Unfit p)
-  judged_above t h = cond-false (fit limit bs t) _ _ (and_left _ _ (lt-leb t.0 limit h))
-
-  -- a number longer than need be is unfit
-  pub judged_overlong : (t : ℕ × ℕ) → overlong bs t.1 ≡ true → judged limit p bs (Some t) ≡ Err (Unfit p)
-  judged_overlong t h =
-      cond-false (fit limit bs t) _ _ (and_right _ _ (not_from_true (overlong bs t.1) h))
+  -- a number that is not fit is unfit
+  pub judged_unfit : (t : ℕ × ℕ) → fit limit bs t ≡ false → judged limit p bs (Some t) ≡ Err (Unfit p)
+  judged_unfit t h = cond-false (fit limit bs t) _ _ h
 
   -- a number of more than three groups is unfit
   pub judged_longer : limit < 65536 → is_some (front bs) ≡ true → Longer bs →
@@ -36,16 +31,14 @@ module _ (limit p : ℕ) (bs : List ℕ) where
       from : (o : Option (ℕ × ℕ)) → front bs ≡ o → is_some o ≡ true → judged limit p bs o ≡ Err (Unfit p)
       from None e s = let z : ◌≡◌ {A = ℕ} 0 1 = cc in absurd (let y : ⊥ = omega arith in y)
       from (Some t) e s = ⊎_elim
-          (λ b. judged_overlong t b)
-          (λ b. judged_above t (let z : limit < t.0 = omega (arith, longer_large bs t e (m t e) b) in z))
+          (λ b. judged_unfit t (and_right _ _ (not_from_true (overlong bs t.1) b)))
+          (λ b. judged_unfit t (and_left _ _
+          (lt-leb t.0 limit (omega (arith, longer_large bs t e (m t e) b)))))
           (cases_Bool (overlong bs t.1))
 
-  -- a number within its limit, and no longer than need be, is read
-  pub judged_fit : (t : ℕ × ℕ) → t.0 ≤ limit → overlong bs t.1 ≡ false →
-      judged limit p bs (Some t) ≡ Ok (t.0, p + t.1)
-  judged_fit t h k =
-      cond-true (fit limit bs t) _ _
-      (and_from _ _ (le-leb t.0 limit h) (not_from_false (overlong bs t.1) k))
+  -- a number that is fit is read
+  pub judged_fit : (t : ℕ × ℕ) → fit limit bs t ≡ true → judged limit p bs (Some t) ≡ Ok (t.0, p + t.1)
+  judged_fit t h = cond-true (fit limit bs t) _ _ h
 
   -- a number that is read is within its limit, and no longer than need be
   pub judged_ok : (v q : ℕ) (o : Option (ℕ × ℕ)) → judged limit p bs o ≡ Ok (v, q) →

@@ -1,9 +1,12 @@
 -- What a reading that succeeded went through.
-use Rattle.std.proofs.Common.{◌≡◌, ℕ, Bool, true, false, cond, eqb, ◌⊎◌, List, Ok, Err, Result, refl, inl, inr, ⊎_elim, arith}
+use Rattle.std.proofs.Common.{◌≡◌, ℕ, Bool, true, false, cond, eqb, ◌⊎◌, List, Ok, Err, Result, refl, inl, inr, ⊎_elim, arith, ◌∙◌, ap}
 use Rattle.std.proofs.lemmas.Bool.{eqb-true}
-use Rattle.schedule.specs.declared.fault.EntryFault.TheVariants.{UnknownKind}
+use Rattle.schedule.specs.declared.kind.NoSuchKind.{NoSuchKind}
+use Rattle.schedule.specs.declared.kind.EntryKind.{EntryKind}
+use Rattle.schedule.specs.declared.fault.EntryFault.TheVariants.{InNumber}
+use Rattle.schedule.specs.Numbers.{number_at}
+use Rattle.schedule.specs.Kinds.{entry_kind, number_of_kind, known, kind_at, no_kind}
 use Rattle.schedule.specs.Chains.{through}
-use Rattle.schedule.specs.Entries.{Act, receive, step, crash, lose, single_at, broadcast_at, kind_at}
 
 -- both readings of a chain succeeded
 pub through_ok : {A B E F : Type 0} (f : E → F) (r : Result A E) (k : A → Result B F) (x : B) →
@@ -25,22 +28,30 @@ err_ok d x e = let z : ◌≡◌ {A = ℕ} 0 1 = cc in omega arith
 pub same_ok : {A E : Type 0} (x y : A) → ◌≡◌ {A = Result A E} (Ok x) (Ok y) → x ≡ y
 same_ok x y e = cc
 
--- an entry that was read is of one of the five kinds
-pub by_kind : (P : Type 0) (k : ℕ) (bytes : List ℕ) (p q : ℕ) (x : Act × ℕ) →
-    (k ≡ 1 → broadcast_at bytes q ≡ Ok x → P) →
-    (k ≡ 2 → single_at 65535 receive bytes q ≡ Ok x → P) →
-    (k ≡ 3 → single_at 255 step bytes q ≡ Ok x → P) →
-    (k ≡ 4 → single_at 255 crash bytes q ≡ Ok x → P) →
-    (k ≡ 5 → single_at 65535 lose bytes q ≡ Ok x → P) →
-    kind_at k bytes p q ≡ Ok x → P
-by_kind P k bytes p q x f1 f2 f3 f4 f5 e =
-    ⊎_elim (λ h. f1 (eqb-true k 1 h.0) h.1) (λ h.
-    ⊎_elim (λ h. f2 (eqb-true k 2 h.0) h.1) (λ h.
-    ⊎_elim (λ h. f3 (eqb-true k 3 h.0) h.1) (λ h.
-    ⊎_elim (λ h. f4 (eqb-true k 4 h.0) h.1) (λ h.
-    ⊎_elim (λ h. f5 (eqb-true k 5 h.0) h.1) (λ h. absurd (err_ok (UnknownKind p) x h.1))
-    (cond_is (eqb k 5) _ _ (Ok x) h.1))
-    (cond_is (eqb k 4) _ _ (Ok x) h.1))
-    (cond_is (eqb k 3) _ _ (Ok x) h.1))
-    (cond_is (eqb k 2) _ _ (Ok x) h.1))
-    (cond_is (eqb k 1) _ _ (Ok x) e)
+-- where a kind is known, its number was tried
+known_ok : {K : Type 0} (p q : ℕ) (r : Result K NoSuchKind) (x : K × ℕ) → known p q r ≡ Ok x → (r ≡ Ok x.0) × (q ≡ x.1)
+known_ok p q (Ok k) x e = (ap Ok (ap (λ y. y.0) (same_ok _ _ e)), ap (λ y. y.1) (same_ok _ _ e))
+known_ok p q (Err f) x e = absurd (let z : ◌≡◌ {A = ℕ} 0 1 = cc in let y : ⊥ = omega arith in y)
+
+-- where a kind is read, a number stands that it goes by
+pub kind_ok : {K : Type 0} (tried : ℕ → Result K NoSuchKind) (bytes : List ℕ) (p : ℕ) (x : K × ℕ) →
+    kind_at tried bytes p ≡ Ok x → (n : ℕ) × (number_at 255 bytes p ≡ Ok (n, x.1)) × (tried n ≡ Ok x.0)
+kind_ok tried bytes p x e =
+    let g = through_ok InNumber (number_at 255 bytes p) _ x e in
+    let n : ℕ × ℕ = g.0 in
+    let h = known_ok p n.1 (tried n.0) x g.2 in
+    (n.0, g.1 ∙ ap (λ q. Ok (n.0, q)) h.1, h.0)
+
+-- a kind of entry goes by one number
+pub entry_kind_number : (n : ℕ) (k : EntryKind) → entry_kind n ≡ Ok k → n ≡ number_of_kind k
+entry_kind_number n k e =
+    ⊎_elim (λ h. eqb-true n 1 h.0 ∙ ap number_of_kind (same_ok _ _ h.1)) (λ h.
+    ⊎_elim (λ h. eqb-true n 2 h.0 ∙ ap number_of_kind (same_ok _ _ h.1)) (λ h.
+    ⊎_elim (λ h. eqb-true n 3 h.0 ∙ ap number_of_kind (same_ok _ _ h.1)) (λ h.
+    ⊎_elim (λ h. eqb-true n 4 h.0 ∙ ap number_of_kind (same_ok _ _ h.1)) (λ h.
+    ⊎_elim (λ h. eqb-true n 5 h.0 ∙ ap number_of_kind (same_ok _ _ h.1)) (λ h. absurd (err_ok (no_kind n) k h.1))
+    (cond_is (eqb n 5) _ _ (Ok k) h.1))
+    (cond_is (eqb n 4) _ _ (Ok k) h.1))
+    (cond_is (eqb n 3) _ _ (Ok k) h.1))
+    (cond_is (eqb n 2) _ _ (Ok k) h.1))
+    (cond_is (eqb n 1) _ _ (Ok k) e)

@@ -1,14 +1,17 @@
 -- The entries of a schedule.
-use Rattle.std.specs.Prelude.{ℕ, ◌+◌, cond, List, length, take, drop, Ok, Err, Result, ◌==◌, nat_le}
+use Rattle.std.specs.Prelude.{ℕ, ◌+◌, cond, List, length, take, drop, Ok, Err, Result, nat_le}
 use Rattle.std.specs.Borrow.{Bor}
 use Rattle.record.specs.declared.command.Command.{Command}
 use Rattle.schedule.specs.declared.entry.Entry.{Entry}
 use Rattle.schedule.specs.declared.entry.Entry.TheVariants.{Broadcast, Receive, Step, Crash, Lose}
 use Rattle.schedule.specs.declared.fault.EntryFault.{EntryFault}
-use Rattle.schedule.specs.declared.fault.EntryFault.TheVariants.{InNumber, InCommand, UnknownKind, BodyTooLong}
+use Rattle.schedule.specs.declared.fault.EntryFault.TheVariants.{InNumber, InCommand, BodyTooLong}
+use Rattle.schedule.specs.declared.kind.EntryKind.{EntryKind}
+use Rattle.schedule.specs.declared.kind.EntryKind.TheVariants as kinds
 use Rattle.schedule.specs.Numbers.{number_at}
 use Rattle.schedule.specs.Chains.{through, and_then}
 use Rattle.schedule.specs.Commands.{command_at}
+use Rattle.schedule.specs.Kinds.{kind_at, entry_kind}
 
 -- what an entry says; a body is the list of its bytes
 pub data Act : Type 0 where
@@ -31,8 +34,8 @@ abbrev pub single_at : ℕ → (ℕ → Act) → List ℕ → ℕ → Result (Ac
 single_at limit make bytes p = through InNumber (number_at limit bytes p) (λ v. Ok (make v.0, v.1))
 
 -- the body of n bytes at p, and the command that it holds
-abbrev pub body_at : List ℕ → ℕ → ℕ → Result ((Command × List ℕ) × ℕ) EntryFault
-body_at bytes n p =
+abbrev pub body_at : ℕ → List ℕ → ℕ → Result ((Command × List ℕ) × ℕ) EntryFault
+body_at n bytes p =
     cond (nat_le (p + n) (length bytes))
     (through InCommand (command_at (take (p + n) bytes) p) (λ c. Ok ((c, take n (drop p bytes)), p + n)))
     (Err (BodyTooLong p))
@@ -42,20 +45,19 @@ abbrev pub broadcast_at : List ℕ → ℕ → Result (Act × ℕ) EntryFault
 broadcast_at bytes p =
     through InNumber (number_at 255 bytes p) (λ node.
     through InNumber (number_at 65535 bytes node.1) (λ n.
-    and_then (body_at bytes n.0 n.1) (λ b. Ok (broadcast node.0 b.0.0 b.0.1, b.1))))
+    and_then (body_at n.0 bytes n.1) (λ b. Ok (broadcast node.0 b.0.0 b.0.1, b.1))))
 
--- what follows the number k of an entry that begins at p, from q on
-abbrev pub kind_at : ℕ → List ℕ → ℕ → ℕ → Result (Act × ℕ) EntryFault
-kind_at k bytes p q =
-    cond (k == 1) (broadcast_at bytes q)
-    (cond (k == 2) (single_at 65535 receive bytes q)
-    (cond (k == 3) (single_at 255 step bytes q)
-    (cond (k == 4) (single_at 255 crash bytes q)
-    (cond (k == 5) (single_at 65535 lose bytes q) (Err (UnknownKind p))))))
+-- what follows a kind of entry, from p on
+abbrev pub act_at : EntryKind → List ℕ → ℕ → Result (Act × ℕ) EntryFault
+act_at kinds.Broadcast bytes p = broadcast_at bytes p
+act_at kinds.Receive bytes p = single_at 65535 receive bytes p
+act_at kinds.Step bytes p = single_at 255 step bytes p
+act_at kinds.Crash bytes p = single_at 255 crash bytes p
+act_at kinds.Lose bytes p = single_at 65535 lose bytes p
 
 -- the entry at p, with the place after it
 abbrev pub entry_at : List ℕ → ℕ → Result (Act × ℕ) EntryFault
-entry_at bytes p = through InNumber (number_at 255 bytes p) (λ k. kind_at k.0 bytes p k.1)
+entry_at bytes p = and_then (kind_at entry_kind bytes p) (λ k. act_at k.0 bytes k.1)
 
 -- a command and its body, with the place at which they left the reader
 abbrev pub part_at : {E : Type 0} → Result (Command × Bor (List ℕ)) E → ℕ → Result ((Command × List ℕ) × ℕ) E

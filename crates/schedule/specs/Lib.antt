@@ -1,8 +1,11 @@
 pub mod Numbers
 pub mod Chains
 pub mod Commands
+pub mod Kinds
 pub mod Entries
 pub mod Headers
 pub mod Reports
 pub mod Drafts
 pub mod Laws
+pub mod Texts
+pub mod Readings

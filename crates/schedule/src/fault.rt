@@ -3,21 +3,21 @@ ghost use Rattle.schedule.specs.declared.fault.CommandFault.TheVariants.{BadNumb
 ghost use Rattle.schedule.specs.declared.fault.EntryFault.TheVariants.{InNumber, InCommand};
 
 // A number that cannot be read, with the place where it begins: it does not end, or it is too long or above its limit.
-#[derive(Clone, Copy)]
+#[derive(Clone, Copy, Debug, PartialEq)]
 pub enum NumberFault {
     CutShort { place: usize },
     Unfit { place: usize },
 }
 
 // A command that cannot be read: one of its numbers, or bytes left after them.
-#[derive(Clone, Copy)]
+#[derive(Clone, Copy, Debug, PartialEq)]
 pub enum CommandFault {
     BadNumber(NumberFault),
     BytesLeft { place: usize },
 }
 
 // An entry or a header that cannot be read: one of its numbers, its command, its kind, or a body beyond the input.
-#[derive(Clone, Copy)]
+#[derive(Clone, Copy, Debug, PartialEq)]
 pub enum EntryFault {
     InNumber(NumberFault),
     InCommand(CommandFault),

@@ -2,13 +2,17 @@
 #![tactic(auto)]
 
 pub mod draft;
+pub mod entries;
 pub mod entry;
 pub mod fault;
 pub mod header;
+pub mod kind;
 mod numbers;
 mod read_command;
 mod read_entry;
 mod read_header;
+mod read_kind;
 mod read_number;
 pub mod reader;
 pub mod report;
+mod text;

@@ -9,7 +9,7 @@ use record::command::Command;
 fn amount_of(raised: u16) -> i16
     ensures { result ≡ pos raised -ℤ pos 32768 }
 {
-    (raised as i32 - 32_768) as i16
+    (i32::from(raised) - 32_768) as i16
 }
 
 impl<'a> Reader<'a> {
@@ -17,18 +17,18 @@ impl<'a> Reader<'a> {
     pub(crate) fn command(mut self) -> Result<Command, CommandFault>
         ensures { result ≡ command_at self.entry.bytes.now self.entry.place }
     {
-        let verb = self.number(255)?;
-        let subject = self.number(65_535)?;
-        let day = self.number(65_535)?;
-        let amount = self.number(65_535)?;
-        if self.place != self.bytes.len() {
+        let verb = self.byte()?;
+        let subject = self.number(u16::MAX)?;
+        let day = self.number(u16::MAX)?;
+        let raised = self.number(u16::MAX)?;
+        if !self.is_done() {
             return Err(CommandFault::BytesLeft { place: self.place });
         }
         Ok(Command {
-            verb: verb as u8,
+            verb,
             subject,
             day,
-            amount: amount_of(amount),
+            amount: amount_of(raised),
         })
     }
 }

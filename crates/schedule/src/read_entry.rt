@@ -1,27 +1,28 @@
 ghost use Rattle.std.specs.Prelude.{◌≡◌, ◌<◌, IfOk, OnErr, OnOk};
 ghost use Rattle.schedule.specs.Entries.{act_of, body_at, broadcast_at, entry_at, part_at, read_as};
 ghost use Rattle.schedule.specs.Laws.{Bytes, OneSpelling};
+ghost use Rattle.schedule.specs.Readings.{Reads};
 
 use crate::entry::Entry;
 use crate::fault::EntryFault;
+use crate::kind::EntryKind;
 use crate::reader::Reader;
 use record::command::Command;
 
 impl<'a> Reader<'a> {
     // The body of so many bytes at the place, and the command that it holds.
     fn body(&mut self, size: u16) -> Result<(Command, &'a [u8]), EntryFault>
-        ensures value { part_at result self.new.place ≡
-            body_at self.old.bytes.now size self.old.place }
-        ensures bytes { self.new.bytes ≡ self.old.bytes }
+        ensures { Reads (body_at size) (part_at result) self.old self.new }
     {
         let bytes = self.bytes;
         let start = self.place;
-        if size as usize > bytes.len() - start {
+        let size = usize::from(size);
+        if size > bytes.len() - start {
             return Err(EntryFault::BodyTooLong { place: start });
         }
-        let end = start + size as usize;
+        let end = start + size;
         let inner = Reader {
-            bytes: &bytes[0..end],
+            bytes: &bytes[..end],
             place: start,
         };
         let command = inner.command()?;
@@ -31,15 +32,13 @@ impl<'a> Reader<'a> {
 
     // What follows the kind of a broadcast.
     fn broadcast(&mut self) -> Result<Entry<'a>, EntryFault>
-        ensures value { read_as result self.new.place ≡
-            broadcast_at self.old.bytes.now self.old.place }
-        ensures bytes { self.new.bytes ≡ self.old.bytes }
+        ensures { Reads broadcast_at (read_as result) self.old self.new }
     {
-        let node = self.number(255)?;
-        let size = self.number(65_535)?;
+        let node = self.byte()?;
+        let size = self.number(u16::MAX)?;
         let (command, body) = self.body(size)?;
         Ok(Entry::Broadcast {
-            node: node as u8,
+            node,
             command,
             body,
         })
@@ -47,26 +46,18 @@ impl<'a> Reader<'a> {
 
     // The entry at the place; a fault may leave the place inside it.
     fn entry_ahead(&mut self) -> Result<Entry<'a>, EntryFault>
-        ensures value { read_as result self.new.place ≡
-            entry_at self.old.bytes.now self.old.place }
-        ensures bytes { self.new.bytes ≡ self.old.bytes }
+        ensures { Reads entry_at (read_as result) self.old self.new }
     {
-        let place = self.place;
-        match self.number(255)? {
-            1 => self.broadcast(),
-            2 => Ok(Entry::Receive {
-                place: self.number(65_535)?,
+        match self.kind()? {
+            EntryKind::Broadcast => self.broadcast(),
+            EntryKind::Receive => Ok(Entry::Receive {
+                place: self.number(u16::MAX)?,
             }),
-            3 => Ok(Entry::Step {
-                node: self.number(255)? as u8,
+            EntryKind::Step => Ok(Entry::Step { node: self.byte()? }),
+            EntryKind::Crash => Ok(Entry::Crash { node: self.byte()? }),
+            EntryKind::Lose => Ok(Entry::Lose {
+                place: self.number(u16::MAX)?,
             }),
-            4 => Ok(Entry::Crash {
-                node: self.number(255)? as u8,
-            }),
-            5 => Ok(Entry::Lose {
-                place: self.number(65_535)?,
-            }),
-            _ => Err(EntryFault::UnknownKind { place }),
         }
     }
 
@@ -82,7 +73,7 @@ impl<'a> Reader<'a> {
     {
         let mut ahead = *self;
         let entry = ahead.entry_ahead()?;
-        self.place = ahead.place;
+        *self = ahead;
         Ok(entry)
     }
 }

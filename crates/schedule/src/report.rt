@@ -1,4 +1,5 @@
 ghost use Rattle.std.specs.Prelude.{◌≡◌};
+ghost use Rattle.schedule.specs.Reports.{number_of_number, place_of_number, number_of_command, place_of_command};
 ghost use Rattle.schedule.specs.Reports.{number_of, place_of, layers_of};
 
 use crate::fault::{CommandFault, EntryFault, NumberFault};
@@ -11,19 +12,59 @@ pub enum Layer {
     Entry,
 }
 
+impl NumberFault {
+    // The number that this fault goes by.
+    fn number(&self) -> u8
+        ensures { result ≡ number_of_number self.now }
+    {
+        match self {
+            NumberFault::CutShort { .. } => 41,
+            NumberFault::Unfit { .. } => 42,
+        }
+    }
+
+    // Where the number at fault begins.
+    fn place(&self) -> usize
+        ensures { result ≡ place_of_number self.now }
+    {
+        match *self {
+            NumberFault::CutShort { place } | NumberFault::Unfit { place } => place,
+        }
+    }
+}
+
+impl CommandFault {
+    // The number that this fault goes by.
+    fn number(&self) -> u8
+        ensures { result ≡ number_of_command self.now }
+    {
+        match self {
+            CommandFault::BadNumber(fault) => fault.number(),
+            CommandFault::BytesLeft { .. } => 44,
+        }
+    }
+
+    // Where what is at fault in the command begins.
+    fn place(&self) -> usize
+        ensures { result ≡ place_of_command self.now }
+    {
+        match self {
+            CommandFault::BadNumber(fault) => fault.place(),
+            CommandFault::BytesLeft { place } => *place,
+        }
+    }
+}
+
 impl EntryFault {
     // The number that this fault goes by.
     pub fn number(&self) -> u8
         ensures { result ≡ number_of self.now }
     {
         match self {
-            EntryFault::InNumber(NumberFault::CutShort { .. })
-            | EntryFault::InCommand(CommandFault::BadNumber(NumberFault::CutShort { .. })) => 41,
-            EntryFault::InNumber(NumberFault::Unfit { .. })
-            | EntryFault::InCommand(CommandFault::BadNumber(NumberFault::Unfit { .. })) => 42,
+            EntryFault::InNumber(fault) => fault.number(),
+            EntryFault::InCommand(fault) => fault.number(),
             EntryFault::UnknownKind { .. } => 43,
-            EntryFault::InCommand(CommandFault::BytesLeft { .. })
-            | EntryFault::BodyTooLong { .. } => 44,
+            EntryFault::BodyTooLong { .. } => 44,
         }
     }
 
@@ -31,16 +72,10 @@ impl EntryFault {
     pub fn place(&self) -> usize
         ensures { result ≡ place_of self.now }
     {
-        match *self {
-            EntryFault::InNumber(NumberFault::CutShort { place } | NumberFault::Unfit { place }) =>
-                place,
-            EntryFault::InCommand(
-                CommandFault::BadNumber(
-                    NumberFault::CutShort { place } | NumberFault::Unfit { place },
-                ),
-            ) => place,
-            EntryFault::InCommand(CommandFault::BytesLeft { place }) => place,
-            EntryFault::UnknownKind { place } | EntryFault::BodyTooLong { place } => place,
+        match self {
+            EntryFault::InNumber(fault) => fault.place(),
+            EntryFault::InCommand(fault) => fault.place(),
+            EntryFault::UnknownKind { place } | EntryFault::BodyTooLong { place } => *place,
         }
     }
 

@@ -2,7 +2,7 @@
 use Rattle.std.proofs.Common.{◌≡◌, ℕ, ◌+◌, ◌*◌, ◌/◌, ◌%◌, ◌<◌, ◌≤◌, false, List, ◌∷◌, ◌++◌, length, drop, Some, Ok, sym, refl, ap}
 use Rattle.std.proofs.Common.{◌∙◌, ⊎_elim, arith}
 use Rattle.std.proofs.lemmas.List.{append_assoc, drop-drop, drop_at}
-use Rattle.std.proofs.lemmas.Bool.{cases_lt, ne_eqb}
+use Rattle.std.proofs.lemmas.Bool.{cases_lt, ne_eqb, and_from, le-leb, not_from_false}
 use Rattle.schedule.specs.Numbers.{front, below, spell, overlong, judged, number_at}
 use Rattle.schedule.specs.Drafts.{spelled}
 use Rattle.schedule.proofs.Fronts.{front_last, front_more}
@@ -52,7 +52,9 @@ read_back limit v p bytes ys h l e =
     number_judged limit bytes p
     ∙ (ap (λ bs. judged limit p bs (front bs)) e
     ∙ (ap (judged limit p (spell v ++ ys)) (front_spell v ys (omega arith))
-    ∙ judged_fit limit p (spell v ++ ys) (v, length (spell v)) h (spell_tight v ys (omega arith))))
+    ∙ judged_fit limit p (spell v ++ ys) (v, length (spell v))
+    (and_from _ _ (le-leb v limit h) (not_from_false (overlong (spell v ++ ys) (length (spell v)))
+    (spell_tight v ys (omega arith))))))
 
 -- what stands past a front
 after : (s ys bytes : List ℕ) (p : ℕ) → drop p bytes ≡ s ++ ys → drop (p + length s) bytes ≡ ys

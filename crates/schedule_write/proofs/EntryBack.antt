@@ -9,8 +9,11 @@ use Rattle.schedule.specs.declared.draft.Draft.{Draft}
 use Rattle.schedule.specs.declared.draft.Draft.TheVariants.{Broadcast, Receive, Step, Crash, Lose}
 use Rattle.schedule.specs.declared.fault.CommandFault.TheVariants.{BytesLeft}
 use Rattle.schedule.specs.Numbers.{spell}
+use Rattle.schedule.specs.declared.kind.EntryKind.{EntryKind}
+use Rattle.schedule.specs.declared.kind.EntryKind.TheVariants as kinds
 use Rattle.schedule.specs.Commands.{command_at, command_of}
-use Rattle.schedule.specs.Entries.{Act, broadcast, receive, step, crash, lose, single_at, body_at, kind_at, entry_at}
+use Rattle.schedule.specs.Kinds.{entry_kind}
+use Rattle.schedule.specs.Entries.{Act, broadcast, receive, step, crash, lose, single_at, body_at, act_at, entry_at}
 use Rattle.schedule.specs.Drafts.{raised, fields, spelled, spelling, within, act_drafted}
 use Rattle.schedule.specs.Drafts.{CommandInRange, InRange}
 use Rattle.schedule.specs.Laws.{ReadsBack}
@@ -69,7 +72,7 @@ command_back c bytes p f l e =
 
 -- a body reads back
 body_back : (c : Command) (ys bytes : List ℕ) (p : ℕ) → CommandInRange c → drop p bytes ≡ spelled (fields c) ++ ys →
-    body_at bytes (length (spelled (fields c))) p
+    body_at (length (spelled (fields c))) bytes p
     ≡ Ok ((c, spelled (fields c)), p + length (spelled (fields c)))
 body_back c ys bytes p f e =
     let s = spelled (fields c) in
@@ -84,17 +87,17 @@ body_back c ys bytes p f e =
     cond-true (leb (p + n) (length bytes)) _ _ (le-leb (p + n) (length bytes) fits) ∙ simp (inner, part)
 
 module _ (ys bytes : List ℕ) (p : ℕ) where
-  -- an entry of a kind and one number reads back
-  single_back : (k x limit : ℕ) (make : ℕ → Act) → k ≤ 255 → x ≤ limit → limit < 65536 →
-      ((q : ℕ) → kind_at k bytes p q ≡ single_at limit make bytes q) →
+  -- an entry of a kind, which goes by the number k, and one number reads back
+  single_back : (kind : EntryKind) (k x limit : ℕ) (make : ℕ → Act) → entry_kind k ≡ Ok kind → k ≤ 255 →
+      x ≤ limit → limit < 65536 → ((q : ℕ) → act_at kind bytes q ≡ single_at limit make bytes q) →
       drop p bytes ≡ spelled (k ∷ x ∷ []) ++ ys →
       entry_at bytes p ≡ Ok (make x, p + length (spelled (k ∷ x ∷ [])))
-  single_back k x limit make hk hx hl is e =
+  single_back kind k x limit make known hk hx hl is e =
       let n1 = next 255 k (x ∷ []) ys bytes p hk (omega arith) e in
       let q = p + length (spell k) in
       let n2 = next limit x [] ys bytes q hx hl n1.1 in
       let place : q + length (spell x) ≡ p + length (spelled (k ∷ x ∷ [])) = omega (arith, length_2 k x) in
-      simp (n1.0, is q, n2.0) (ap (λ i. Ok (make x, i)) place)
+      simp (n1.0, known, is q, n2.0) (ap (λ i. Ok (make x, i)) place)
 
   -- a broadcast reads back
   broadcast_back : (node : ℕ) (c : Command) → node ≤ 255 → CommandInRange c →
@@ -134,13 +137,13 @@ module _ (ys bytes : List ℕ) (p : ℕ) where
       entry_at bytes p ≡ Ok (act_drafted d, p + length (spelling d))
   entry_back (Broadcast node c) w f e = broadcast_back node c (leb-true node 255 w) f e
   entry_back (Receive x) w f e =
-      single_back 2 x 65535 receive (omega arith) (leb-true x 65535 w) (omega arith) (λ q. refl) e
+      single_back kinds.Receive 2 x 65535 receive refl (omega arith) (leb-true x 65535 w) (omega arith) (λ q. refl) e
   entry_back (Step x) w f e =
-      single_back 3 x 255 step (omega arith) (leb-true x 255 w) (omega arith) (λ q. refl) e
+      single_back kinds.Step 3 x 255 step refl (omega arith) (leb-true x 255 w) (omega arith) (λ q. refl) e
   entry_back (Crash x) w f e =
-      single_back 4 x 255 crash (omega arith) (leb-true x 255 w) (omega arith) (λ q. refl) e
+      single_back kinds.Crash 4 x 255 crash refl (omega arith) (leb-true x 255 w) (omega arith) (λ q. refl) e
   entry_back (Lose x) w f e =
-      single_back 5 x 65535 lose (omega arith) (leb-true x 65535 w) (omega arith) (λ q. refl) e
+      single_back kinds.Lose 5 x 65535 lose refl (omega arith) (leb-true x 65535 w) (omega arith) (λ q. refl) e
 
 -- whatever stands before an entry and after it
 pub reads_back : (d : Draft) (n : ℕ) → within d ≡ true → InRange d → n ≡ length (spelling d) → ReadsBack d n

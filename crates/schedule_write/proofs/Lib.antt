@@ -1,5 +1,4 @@
 pub mod Lengths
-pub mod Puts
 pub mod Growing
 pub mod Back
 pub mod EntryBack

@@ -1,9 +1,16 @@
 -- What comes of writing an entry.
-use Rattle.std.specs.Prelude.{ℕ, cond, length, Ok, Err, Result, nat_le}
+use Rattle.std.specs.Prelude.{ℕ, cond, List, length, Ok, Err, Result, nat_le}
 use Rattle.schedule.specs.declared.draft.Draft.{Draft}
 use Rattle.schedule.specs.Drafts.{spelling, within}
+use Rattle.schedule_write.specs.declared.numbers.Numbers.{Numbers}
+use Rattle.schedule_write.specs.declared.numbers.Numbers.TheVariants.{Two, Seven}
 use Rattle.schedule_write.specs.declared.refusal.WriteRefusal.{WriteRefusal}
 use Rattle.schedule_write.specs.declared.refusal.WriteRefusal.TheVariants.{NumberAboveLimit, BufferTooShort}
+
+-- the numbers of an entry as a list
+abbrev pub list_of : Numbers → List ℕ
+list_of (Two ns) = ns
+list_of (Seven ns) = ns
 
 -- the length that is written into so many bytes, or why nothing is
 abbrev pub outcome : Draft → ℕ → Result ℕ WriteRefusal

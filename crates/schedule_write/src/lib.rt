@@ -2,5 +2,6 @@
 #![tactic(auto)]
 
 mod group;
+mod numbers;
 pub mod refusal;
 pub mod write;

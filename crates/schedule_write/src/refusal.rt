@@ -1,11 +1,11 @@
 ghost use Rattle.std.specs.Prelude.{◌≡◌};
 ghost use Rattle.schedule_write.specs.Outcomes.{number_of};
 
-// Why a draft is not written.
+// Why a draft is not written, with the number that each reason goes by.
 #[derive(Clone, Copy, Debug, PartialEq)]
 pub enum WriteRefusal {
-    NumberAboveLimit,
-    BufferTooShort,
+    NumberAboveLimit = 42,
+    BufferTooShort = 46,
 }
 
 impl WriteRefusal {
@@ -13,9 +13,6 @@ impl WriteRefusal {
     pub fn number(self) -> u8
         ensures { result ≡ number_of self }
     {
-        match self {
-            WriteRefusal::NumberAboveLimit => 42,
-            WriteRefusal::BufferTooShort => 46,
-        }
+        self as u8
     }
 }

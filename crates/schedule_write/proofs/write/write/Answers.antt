@@ -1,4 +1,4 @@
-use Rattle.std.proofs.Common.{◌≡◌, ◌+◌, ◌-◌, ◌++◌, length, take, drop, sym, ap, ◌∙◌, arith, rules}
+use Rattle.std.proofs.Common.{◌≡◌, ◌+◌, ◌++◌, length, take, drop, sym, ap, ◌∙◌, arith, rules}
 use Rattle.std.proofs.lemmas.List.{take_all}
 use Rattle.schedule.specs.Drafts.{spelled, numbers_of, spelling}
 use Rattle.schedule_write.proofs.EntryBack.{reads_back}
@@ -8,14 +8,13 @@ use Rattle.schedule_write.proofs.write.write.Goals as goal
 -- the next number has room
 pub put-at-requires : goal.put-at-requires
 put-at-requires c =
-    let ns = take (c.in_ok-list.count - 0) c.in_ok-list.list in
     let l = c.loop-value in
-    room ns l.value-index l.at (length l.buffer) (omega arith) l.invariant.0 (omega arith)
+    room c.as_slice-list.result.now l.value-index l.at (length l.buffer) (omega arith) l.invariant.0 (omega arith)
 
 -- one number more
 pub loop-value-preserved : goal.loop-value-preserved
 loop-value-preserved c =
-    let ns = take (c.in_ok-list.count - 0) c.in_ok-list.list in
+    let ns = c.as_slice-list.result.now in
     let was = c.args.buffer.now in
     let l = c.loop-value in
     let i = l.value-index in
@@ -27,21 +26,14 @@ loop-value-preserved c =
           ∙ ap (λ q. spelled (take (i + 1) ns) ++ drop q was) (sym put.ensures.place),
     )
 
--- all numbers
-pub returns : goal.returns
-returns c =
+-- what is written reads back
+pub returns-clause-back : goal.returns-clause-back
+returns-clause-back c =
     let d = c.args.draft in
-    let ns = take (c.in_ok-list.count - 0) c.in_ok-list.list in
-    let was = c.args.buffer.now in
+    let ns = c.as_slice-list.result.now in
     let l = c.loop-value in
-    let told = c.in_ok-list.ensures in
+    let told = c.in_ok-numbers.ensures in
     let are : ns ≡ numbers_of d = search rules in
     let done : spelled (take l.value-index ns) ≡ spelling d =
     ap spelled (take_all l.value-index ns (omega arith) ∙ are) in
-    let size : l.at ≡ length (spelling d) = l.invariant.0 ∙ ap length done in
-    record {
-      value = search rules;
-      wrote = l.invariant.1 ∙ ap (λ s. s ++ drop l.at was) done;
-      kept = tt;
-      back = reads_back d l.at told.value.0 told.range size;
-    }
+    reads_back d l.at told.value.0 told.range (l.invariant.0 ∙ ap length done)

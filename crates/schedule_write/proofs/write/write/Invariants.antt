@@ -5,5 +5,5 @@ use Rattle.schedule_write.proofs.write.write.Given as goal
 -- the numbers so far stand at the front, and past them all is as it was
 abbrev pub invariant-loop-value : goal.invariant-loop-value
 invariant-loop-value l =
-    (l.at ≡ length (spelled (take l.value-index l.numbers)))
-    × (l.buffer ≡ spelled (take l.value-index l.numbers) ++ drop l.at l.initial.buffer)
+    (l.at ≡ length (spelled (take l.value-index l.list)))
+    × (l.buffer ≡ spelled (take l.value-index l.list) ++ drop l.at l.initial.buffer)
