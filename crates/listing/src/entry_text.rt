@@ -9,6 +9,5 @@ use std::alloc::{AllocError, Global};
 pub fn entry_line(heap: Global, entry: Entry<'_>) -> Result<String, AllocError>
     ensures { IfOk result (λ s. string_bytes s ≡ act_line (act_of entry.entry)) }
 {
-    let line = format!(in heap; "{entry}\n")?;
-    Ok(line)
+    format!(in heap; "{entry}\n")
 }

@@ -10,6 +10,5 @@ pub fn fault_line(heap: Global, fault: EntryFault) -> Result<String, AllocError>
     ensures { IfOk result (λ s. string_bytes s ≡ fault_line fault) }
 {
     let layers = Layers(fault.layers());
-    let line = format!(in heap; "{fault} in {layers}\n")?;
-    Ok(line)
+    format!(in heap; "{fault} in {layers}\n")
 }

@@ -1,5 +1,6 @@
 -- The number at the front of bytes that are known.
-use Rattle.std.proofs.Common.{◌≡◌, ℕ, suc, ◌+◌, ◌*◌, ◌%◌, ◌<◌, ◌≤◌, Bool, true, false, cond, ◌||◌, ltb, List, [], ◌∷◌, length, get_or, is_some, Some}
+use Rattle.std.proofs.Common.{◌≡◌, ℕ, suc, ◌%◌, ◌<◌, ◌≤◌, Bool, true, false, cond, ◌||◌, ltb, List, [], ◌∷◌, length}
+use Rattle.std.proofs.Common.{get_or, is_some, Some}
 use Rattle.std.proofs.Common.{None, Option, sym, refl, ap, ◌∙◌, ⊎_elim, arith}
 use Rattle.std.proofs.lemmas.Bool.{lt-ltb, le-ltb, cond-true, cond-false, cases_lt}
 use Rattle.std.specs.List.{list_any}
@@ -28,23 +29,6 @@ some_last false b o = some_below (b % 128) o
 pub some_front : (bs : List ℕ) → is_some (front bs) ≡ list_any (λ b. ltb b 128) bs
 some_front [] = refl
 some_front (b ∷ bs) = some_last (ltb b 128) b (front bs) ∙ ap (λ r. ltb b 128 || r) (some_front bs)
-
--- a number of one group, by the byte at its place
-pub front_1 : (xs : List ℕ) → 0 < length xs → get_or xs 0 0 < 128 → front xs ≡ Some (get_or xs 0 0, 1)
-front_1 [] l h = absurd (let z : ⊥ = omega arith in z)
-front_1 (a ∷ xs) l h = front_last a xs h
-
--- a number of two groups, by the bytes at their places
-pub front_2 : (xs : List ℕ) → 1 < length xs → 128 ≤ get_or xs 0 0 → get_or xs 1 0 < 128 →
-    front xs ≡ Some (get_or xs 0 0 % 128 + 128 * get_or xs 1 0, 2)
-front_2 [] l g h = absurd (let z : ⊥ = omega arith in z)
-front_2 (a ∷ xs) l g h = front_more a xs g ∙ ap (below (a % 128)) (front_1 xs (omega arith) h)
-
--- a number of three groups, by the bytes at their places
-pub front_3 : (xs : List ℕ) → 2 < length xs → 128 ≤ get_or xs 0 0 → 128 ≤ get_or xs 1 0 → get_or xs 2 0 < 128 →
-    front xs ≡ Some (get_or xs 0 0 % 128 + 128 * (get_or xs 1 0 % 128 + 128 * get_or xs 2 0), 3)
-front_3 [] l g h k = absurd (let z : ⊥ = omega arith in z)
-front_3 (a ∷ xs) l g h k = front_more a xs g ∙ ap (below (a % 128)) (front_2 xs (omega arith) h k)
 
 -- the number at the front, if any, has more than n groups
 abbrev pub More : ℕ → List ℕ → Type 0

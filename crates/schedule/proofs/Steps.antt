@@ -1,5 +1,6 @@
 -- What a reading that succeeded went through.
-use Rattle.std.proofs.Common.{◌≡◌, ℕ, Bool, true, false, cond, eqb, ◌⊎◌, List, Ok, Err, Result, refl, inl, inr, ⊎_elim, arith, ◌∙◌, ap}
+use Rattle.std.proofs.Common.{◌≡◌, ℕ, Bool, true, false, cond, eqb, ◌⊎◌, List, Ok, Err, Result, refl, inl, inr, ⊎_elim, arith}
+use Rattle.std.proofs.Common.{◌∙◌, ap}
 use Rattle.std.proofs.lemmas.Bool.{eqb-true}
 use Rattle.schedule.specs.declared.kind.NoSuchKind.{NoSuchKind}
 use Rattle.schedule.specs.declared.kind.EntryKind.{EntryKind}

@@ -62,6 +62,7 @@ impl<'a> Reader<'a> {
     }
 
     // The entry at the place, which is then past it; a fault leaves the place where it was.
+    // Stays beside header: what they share is the copy and the write back, around the one call that differs.
     pub fn entry(&mut self) -> Result<Entry<'a>, EntryFault>
         ensures value { read_as result self.new.place ≡
             entry_at self.old.bytes.now self.old.place }

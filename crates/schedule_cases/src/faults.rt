@@ -19,10 +19,7 @@ fn fault_behind_step(rt: &impl Abort, bytes: &[u8]) -> Result<EntryFault, Fail> 
     assert!(rt; reader.entry().is_ok());
     let read = reader.entry();
     assert_eq!(rt; reader.place(), 2);
-    match read {
-        Ok(_) => Err(Fail::new("no fault")),
-        Err(fault) => Ok(fault),
-    }
+    Ok(read.err().ok_or("no fault")?)
 }
 
 // Each row: bytes whose first entry is `03 00`, and the number, the place and the layers of the fault behind it.

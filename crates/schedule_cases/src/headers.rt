@@ -1,30 +1,15 @@
-use schedule::header::{ChooserKind, RecordKind};
+use schedule::header::{ChooserKind, Header, RecordKind};
 use schedule::reader::Reader;
 use schedule::report::Layer;
 use std::process::Abort;
 use std::test::Fail;
 
 // Checks that a header stands at the front, which ends at a place.
-fn check_header(
-    rt: &impl Abort,
-    bytes: &[u8],
-    sizes: (u16, u16),
-    chooser: ChooserKind,
-    account: RecordKind,
-    end: usize,
-) -> Result<(), Fail> {
+fn check_header(rt: &impl Abort, bytes: &[u8], header: Header, end: usize) -> Result<(), Fail> {
     let mut reader = Reader::new(bytes);
-    match reader.header() {
-        Ok(header) => {
-            assert_eq!(rt; header.n, sizes.0);
-            assert_eq!(rt; header.q, sizes.1);
-            assert_eq!(rt; header.chooser, chooser);
-            assert_eq!(rt; header.record, account);
-            assert_eq!(rt; reader.place(), end);
-            Ok(())
-        }
-        Err(_) => Err(Fail::new("a fault")),
-    }
+    assert_eq!(rt; reader.header()?, header);
+    assert_eq!(rt; reader.place(), end);
+    Ok(())
 }
 
 // The kinds of each, and the largest counts.
@@ -33,26 +18,35 @@ fn headers_are_read(rt: HostRuntime) -> Result<(), Fail> {
     check_header(
         &rt,
         &[4, 3, 1, 1],
-        (4, 3),
-        ChooserKind::FirstCome,
-        RecordKind::Kitty,
+        Header {
+            n: 4,
+            q: 3,
+            chooser: ChooserKind::FirstCome,
+            record: RecordKind::Kitty,
+        },
         4,
     )?;
     check_header(
         &rt,
         &[7, 0, 2, 2, 3, 0],
-        (7, 0),
-        ChooserKind::LowestOf,
-        RecordKind::Rounds,
+        Header {
+            n: 7,
+            q: 0,
+            chooser: ChooserKind::LowestOf,
+            record: RecordKind::Rounds,
+        },
         4,
     )?;
     let largest = [0xFF, 0xFF, 0x03, 0x80, 0x01, 1, 3];
     check_header(
         &rt,
         &largest,
-        (65_535, 128),
-        ChooserKind::FirstCome,
-        RecordKind::Both,
+        Header {
+            n: 65_535,
+            q: 128,
+            chooser: ChooserKind::FirstCome,
+            record: RecordKind::Both,
+        },
         7,
     )
 }
@@ -77,15 +71,11 @@ fn headers_are_faulty(rt: HostRuntime) -> Result<(), Fail> {
     ];
     for (bytes, want, place, layers) in cases {
         let mut reader = Reader::new(bytes);
-        match reader.header() {
-            Ok(_) => return Err(Fail::new("no fault")),
-            Err(fault) => {
-                assert_eq!(rt; fault.number(), want);
-                assert_eq!(rt; fault.place(), place);
-                assert_eq!(rt; fault.layers(), layers);
-                assert_eq!(rt; reader.place(), 0);
-            }
-        }
+        let fault = reader.header().err().ok_or("no fault")?;
+        assert_eq!(rt; fault.number(), want);
+        assert_eq!(rt; fault.place(), place);
+        assert_eq!(rt; fault.layers(), layers);
+        assert_eq!(rt; reader.place(), 0);
     }
     Ok(())
 }

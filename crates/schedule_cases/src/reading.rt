@@ -6,10 +6,8 @@ use std::test::Fail;
 // The entry at the front, and the place after it.
 fn first_entry(bytes: &[u8]) -> Result<(Entry<'_>, usize), Fail> {
     let mut reader = Reader::new(bytes);
-    match reader.entry() {
-        Ok(entry) => Ok((entry, reader.place())),
-        Err(_) => Err(Fail::new("a fault")),
-    }
+    let entry = reader.entry()?;
+    Ok((entry, reader.place()))
 }
 
 // Numbers at the edges of one, two and three groups.

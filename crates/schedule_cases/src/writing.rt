@@ -45,10 +45,7 @@ fn entries_are_written(rt: HostRuntime) {
         let mut buffer = [0xEE; 10];
         assert_eq!(rt; write(draft, &mut buffer), Ok(bytes.len()));
         for (i, byte) in buffer.iter().enumerate() {
-            let want = match bytes.get(i) {
-                Some(written) => *written,
-                None => 0xEE,
-            };
+            let want = bytes.get(i).copied().unwrap_or(0xEE);
             assert_eq!(rt; *byte, want);
         }
     }
@@ -138,17 +135,14 @@ fn written_entries_read_back(rt: HostRuntime) -> Result<(), Fail> {
     let mut buffer = [0x80; 20];
     let size = write(Draft::Broadcast { node: 7, command }, &mut buffer);
     let mut reader = Reader::new(&buffer);
-    match reader.entry() {
-        Ok(entry) => assert_eq!(rt;
-            entry,
-            Entry::Broadcast {
-                node: 7,
-                command,
-                body: &buffer[3..13],
-            }
-        ),
-        Err(_) => return Err(Fail::new("a fault")),
-    }
+    assert_eq!(rt;
+        reader.entry()?,
+        Entry::Broadcast {
+            node: 7,
+            command,
+            body: &buffer[3..13],
+        }
+    );
     assert_eq!(rt; size, Ok(reader.place()));
     Ok(())
 }

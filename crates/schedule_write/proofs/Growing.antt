@@ -1,7 +1,9 @@
 -- Numbers written one after the other.
-use Rattle.std.proofs.Common.{◌≡◌, ℕ, ◌+◌, ◌<◌, ◌≤◌, List, [], ◌∷◌, ◌++◌, length, get_or, take, drop, sym, refl, ap, ◌∙◌, arith}
+use Rattle.std.proofs.Common.{◌≡◌, ℕ, ◌+◌, ◌-◌, ◌<◌, ◌≤◌, List, [], ◌∷◌, ◌++◌, length, get_or, take, drop, sym, refl, ap, ◌∙◌}
+use Rattle.std.proofs.Common.{arith}
 use Rattle.std.proofs.lemmas.List.{take-append-drop, take_more, flat_map_more, length-append, append_assoc, take_at, drop_at}
-use Rattle.std.proofs.lemmas.List.{drop-drop}
+use Rattle.std.proofs.lemmas.List.{append-nil, drop-drop, drop_all, length-drop, take_rest}
+use borrow.Rule.Slice.PartMut.{put_mid}
 use Rattle.schedule.specs.Numbers.{spell}
 use Rattle.schedule.specs.Drafts.{spelled}
 
@@ -29,24 +31,27 @@ length_part xs i =
     ∙ ap length (sym (spelled_append (take i xs) (drop i xs)) ∙ ap spelled (take-append-drop i xs))
 
 -- where all the numbers have room, the next one has
-pub room : (ns : List ℕ) (i at n : ℕ) → i < length ns → at ≡ length (spelled (take i ns)) →
-    length (spelled ns) ≤ n → at + length (spell (get_or ns i 0)) ≤ n
-room ns i at n h e k = omega (arith, length_more ns i h, length_part ns (i + 1))
+pub room : (ns out : List ℕ) (i at : ℕ) → i < length ns → at ≡ length (spelled (take i ns)) →
+    length (spelled ns) ≤ length out → length (spell (get_or ns i 0)) ≤ length (take (length out - at) (drop at out))
+room ns out i at h e k =
+    omega (arith, length_more ns i h, length_part ns (i + 1), length-drop at out, ap length (take_rest out at))
 
--- with one number more, what lies past the numbers is still as it was
-pub one_more : (ns was out out' : List ℕ) (i at : ℕ) → i < length ns → at ≡ length (spelled (take i ns)) →
+-- with one number more at the front of what is left, what lies past the numbers is still as it was
+pub one_more : (ns was out part : List ℕ) (i at : ℕ) → i < length ns → at ≡ length (spelled (take i ns)) →
     out ≡ spelled (take i ns) ++ drop at was →
-    out' ≡ take at out ++ (spell (get_or ns i 0) ++ drop (at + length (spell (get_or ns i 0))) out) →
-    out' ≡ spelled (take (i + 1) ns) ++ drop (at + length (spell (get_or ns i 0))) was
-one_more ns was out out' i at h a o w =
+    part ≡ spell (get_or ns i 0) ++ drop (length (spell (get_or ns i 0))) (take (length out - at) (drop at out)) →
+    put_mid at (length out - at) out part ≡ spelled (take (i + 1) ns) ++ drop (at + length (spell (get_or ns i 0))) was
+one_more ns was out part i at h a o w =
     let p = spelled (take i ns) in
     let s = spell (get_or ns i 0) in
     let k = length s in
-    let front : take at out ≡ p = ap (take at) o ∙ take_at p (drop at was) at (sym a) in
-    let back : drop (at + k) out ≡ drop (at + k) was =
-    sym (drop-drop k at out)
-    ∙ (ap (λ l. drop k l) (ap (drop at) o ∙ drop_at p (drop at was) at (sym a)) ∙ drop-drop k at was) in
-    w ∙ (ap (λ l. l ++ (s ++ drop (at + k) out)) front
-    ∙ (ap (λ l. p ++ (s ++ l)) back
+    let rest = drop at out in
+    let is : rest ≡ drop at was = ap (drop at) o ∙ drop_at p (drop at was) at (sym a) in
+    let none : drop (length out - at) rest ≡ [] = drop_all _ rest (omega (arith, length-drop at out)) in
+    let all : part ≡ s ++ drop (at + k) was =
+    w ∙ (ap (λ l. s ++ drop k l) (take_rest out at ∙ is) ∙ ap (λ l. s ++ l) (drop-drop k at was)) in
+    ap (λ l. take at out ++ (part ++ l)) none
+    ∙ (ap (λ l. take at out ++ l) (append-nil part ∙ all)
+    ∙ (ap (λ l. l ++ (s ++ drop (at + k) was)) (ap (take at) o ∙ take_at p (drop at was) at (sym a))
     ∙ (sym (append_assoc p s (drop (at + k) was))
     ∙ ap (λ l. l ++ drop (at + k) was) (sym (spelled_more ns i h)))))

@@ -1,4 +1,4 @@
-ghost use Rattle.std.specs.Prelude.{◌≡◌, ◌+◌, ◌≤◌, ◌++◌, length, take, drop, IfOk, OnErr};
+ghost use Rattle.std.specs.Prelude.{◌≡◌, ◌≤◌, ◌++◌, length, drop, IfOk, OnErr};
 ghost use Rattle.schedule.specs.Numbers.{spell};
 ghost use Rattle.schedule.specs.Drafts.{spelling};
 ghost use Rattle.schedule.specs.Laws.{ReadsBack};
@@ -8,33 +8,31 @@ use crate::numbers::{numbers_of, size_of};
 use crate::refusal::WriteRefusal;
 use schedule::draft::Draft;
 
-// Copies bytes to a place, and answers the place after them.
-fn lay(buffer: &mut [u8], at: usize, bytes: &[u8]) -> usize
-    requires { at + length bytes.now ≤ length buffer.old }
-    ensures place { result ≡ at + length bytes.now }
-    ensures wrote { buffer.new ≡ take at buffer.old ++ (bytes.now ++ drop (at + length bytes.now) buffer.old) }
+// Writes bytes at the front, and answers how many they are.
+fn lay(front: &mut [u8], bytes: &[u8]) -> usize
+    requires { length bytes.now ≤ length front.old }
+    ensures size { result ≡ length bytes.now }
+    ensures wrote { front.new ≡ bytes.now ++ drop (length bytes.now) front.old }
 {
-    let end = at + bytes.len();
-    buffer[at..end].copy_from_slice(bytes);
-    end
+    front[..bytes.len()].copy_from_slice(bytes);
+    bytes.len()
 }
 
-// Writes a number at a place, and answers the place after it.
-fn put(buffer: &mut [u8], at: usize, value: u16) -> usize
-    requires { at + length (spell value) ≤ length buffer.old }
-    ensures place { result ≡ at + length (spell value) }
-    ensures wrote { buffer.new ≡
-        take at buffer.old ++ (spell value ++ drop (at + length (spell value)) buffer.old) }
+// Writes a number at the front, and answers how many bytes it takes.
+fn put(front: &mut [u8], value: u16) -> usize
+    requires { length (spell value) ≤ length front.old }
+    ensures size { result ≡ length (spell value) }
+    ensures wrote { front.new ≡ spell value ++ drop (length (spell value)) front.old }
 {
     let low = (value % 128) as u8;
     let middle = (value / 128 % 128) as u8;
     let high = (value / 128 / 128) as u8;
     if value < 128 {
-        lay(buffer, at, &[low])
+        lay(front, &[low])
     } else if value < 16_384 {
-        lay(buffer, at, &[128 + low, middle])
+        lay(front, &[128 + low, middle])
     } else {
-        lay(buffer, at, &[128 + low, 128 + middle, high])
+        lay(front, &[128 + low, 128 + middle, high])
     }
 }
 
@@ -50,9 +48,10 @@ pub fn write(draft: Draft, buffer: &mut [u8]) -> Result<usize, WriteRefusal>
     if size_of(list) > buffer.len() {
         return Err(WriteRefusal::BufferTooShort);
     }
+    // Stays a loop: the closure of a fold would write the buffer, of which a proof then knows nothing.
     let mut at = 0;
     for value in list {
-        at = put(buffer, at, *value);
+        at += put(&mut buffer[at..], *value);
     }
     Ok(at)
 }

@@ -9,7 +9,7 @@ use Rattle.schedule_write.proofs.write.write.Goals as goal
 pub put-at-requires : goal.put-at-requires
 put-at-requires c =
     let l = c.loop-value in
-    room c.as_slice-list.result.now l.value-index l.at (length l.buffer) (omega arith) l.invariant.0 (omega arith)
+    room c.as_slice-list.result.now l.buffer l.value-index l.at (omega arith) l.invariant.0 (omega arith)
 
 -- one number more
 pub loop-value-preserved : goal.loop-value-preserved
@@ -18,12 +18,10 @@ loop-value-preserved c =
     let was = c.args.buffer.now in
     let l = c.loop-value in
     let i = l.value-index in
-    let put = c.put-at in
-    let more = length_more ns i (omega arith) in (
-      omega arith,
-      one_more ns was l.buffer put.new.buffer i l.at (omega arith) l.invariant.0 l.invariant.1
-          put.ensures.wrote
-          ∙ ap (λ q. spelled (take (i + 1) ns) ++ drop q was) (sym put.ensures.place),
+    let put = c.put-at in (
+      omega (arith, put.ensures.size, length_more ns i (omega arith)),
+      one_more ns was l.buffer put.new.front i l.at (omega arith) l.invariant.0 l.invariant.1 put.ensures.wrote
+          ∙ ap (λ n. spelled (take (i + 1) ns) ++ drop (l.at + n) was) (sym put.ensures.size),
     )
 
 -- what is written reads back

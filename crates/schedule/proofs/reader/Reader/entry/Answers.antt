@@ -1,22 +1,20 @@
-use Rattle.std.proofs.Common.{sym, rules}
+use Rattle.std.proofs.Common.{sym}
 use Rattle.schedule.specs.Entries.{act_of}
 use Rattle.schedule.proofs.ByteLists.{all_bytes}
 use Rattle.schedule.proofs.Onward.{entry_on}
 use Rattle.schedule.proofs.EntryOnce.{entry_once}
 use Rattle.schedule.proofs.reader.Reader.entry.Goals as goal
 
--- the entry is read
-pub returns : goal.returns
-returns c =
+-- an entry leads on
+pub returns-clause-onward : goal.returns-clause-onward
+returns-clause-onward c =
     let bytes = c.args.self.now.bytes.now in
-    let p = c.args.self.now.place in
-    let act = act_of c.in_ok-entry.entry in
-    let q = c.entry_ahead.new.self.place in
-    let read = sym c.in_ok-entry.ensures.value in
-    record {
-      value = search rules;
-      bytes = search rules;
-      kept = tt;
-      onward = entry_on p bytes (act, q) read;
-      once = λ f. entry_once bytes p (act, q) (all_bytes bytes f) read;
-    }
+    entry_on c.args.self.now.place bytes (act_of c.in_ok-entry.entry, c.entry_ahead.new.self.place)
+    (sym c.in_ok-entry.ensures.value)
+
+-- an entry has one spelling
+pub returns-clause-once : goal.returns-clause-once
+returns-clause-once c f =
+    let bytes = c.args.self.now.bytes.now in
+    entry_once bytes c.args.self.now.place (act_of c.in_ok-entry.entry, c.entry_ahead.new.self.place)
+    (all_bytes bytes f) (sym c.in_ok-entry.ensures.value)
