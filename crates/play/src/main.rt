@@ -7,7 +7,7 @@ fn main(rt: HostRuntime) -> anyhow::Result<()> {
     let heap = rt.alloc();
     let mut input = Vec::new(heap);
     rt.stdin().read_to_end(&mut input)?;
-    let text = transcript::transcript(heap, input.as_slice())?;
+    let text = transcript::transcript(heap, &input)?;
     rt.print(text)?;
     Ok(())
 }

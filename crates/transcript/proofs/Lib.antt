@@ -1,6 +1,7 @@
-pub mod Leads
+pub mod Firsts
+pub mod Fewer
 pub mod LineCuts
 pub mod WordCuts
 pub mod Digits
 pub mod Played
-pub mod Told
+pub mod RoundsText

@@ -1,35 +1,54 @@
 -- The first line is what stands before the first newline.
-use Rattle.std.proofs.Common.{◌≡◌, ℕ, suc, ◌+◌, ◌<◌, ◌≤◌, true, false, cond, not, eqb}
-use Rattle.std.proofs.Common.{List, [], ◌∷◌, length, take, drop, sym, refl, ap, ◌∙◌, add-one, arith}
+use Rattle.std.proofs.Common.{◌≡◌, ℕ, ◌+◌, ◌<◌, ◌≤◌, Bool, true, false, cond, not, eqb}
+use Rattle.std.proofs.Common.{List, [], ◌∷◌, length, take, drop, Some, None, refl, ap, ◌∙◌, arith}
+use Rattle.std.proofs.Math.Numerals.{one-add}
 use Rattle.std.proofs.lemmas.List.{take_all, drop_all}
+use Rattle.std.specs.List.{position, position_or_len}
+use Rattle.transcript.proofs.Firsts.{none_first, first_at}
 use Rattle.transcript.specs.Cuts.{onto}
-use Rattle.transcript.specs.Leading.{leading}
-use Rattle.transcript.specs.Lines.{lines_of, in_line}
+use Rattle.transcript.specs.Lines.{ends_line, lines_of}
+
+-- how many bytes the first line has
+abbrev size : List ℕ → ℕ
+size xs = position_or_len ends_line xs
 
 -- a text that is not empty is its first line, and behind a newline the other lines
 lines_cut : (b : ℕ) (bs : List ℕ) → lines_of (b ∷ bs) ≡
-    take (leading in_line (b ∷ bs)) (b ∷ bs) ∷ lines_of (drop (suc (leading in_line (b ∷ bs))) (b ∷ bs))
+    take (size (b ∷ bs)) (b ∷ bs) ∷ lines_of (drop (1 + size (b ∷ bs)) (b ∷ bs))
 lines_cut b [] =
     elim (eqb b 10) as (λ v. cond v ([] ∷ []) ((b ∷ []) ∷ []) ≡
-    take (cond (not v) 1 0) (b ∷ []) ∷ lines_of (drop (suc (cond (not v) 1 0)) (b ∷ [])))
+    take (cond (not v) 1 0) (b ∷ []) ∷ lines_of (drop (1 + cond (not v) 1 0) (b ∷ [])))
     [ true ↦ refl | false ↦ refl ]
 lines_cut b (d ∷ ds) =
-    let n = leading in_line (d ∷ ds) in
+    let n = size (d ∷ ds) in
     elim (eqb b 10) as (λ v. cond v ([] ∷ lines_of (d ∷ ds)) (onto b (lines_of (d ∷ ds))) ≡
-    take (cond (not v) (suc n) 0) (b ∷ (d ∷ ds)) ∷ lines_of (drop (suc (cond (not v) (suc n) 0)) (b ∷ (d ∷ ds))))
-    [ true ↦ refl | false ↦ ap (onto b) (lines_cut d ds) ]
+    take (cond (not v) (1 + n) 0) (b ∷ (d ∷ ds)) ∷ lines_of (drop (1 + cond (not v) (1 + n) 0) (b ∷ (d ∷ ds))))
+    [ true ↦ refl | false ↦ simp one-add (ap (onto b) (simp one-add at (lines_cut d ds))) ]
 
--- the same of a line of n bytes
-pub first_line : (xs : List ℕ) (n : ℕ) → 0 < length xs → n ≡ leading in_line xs →
+-- the first line goes up to the first newline
+pub first_line : (xs : List ℕ) (n : ℕ) → 0 < length xs → Some n ≡ position ends_line xs →
     lines_of xs ≡ take n xs ∷ lines_of (drop (n + 1) xs)
 first_line [] n h e = absurd (omega arith)
-first_line (b ∷ bs) n h e = rw (add-one, e) (lines_cut b bs)
+first_line (b ∷ bs) n h e =
+    let same : n + 1 ≡ 1 + size (b ∷ bs) = let first = first_at ends_line (b ∷ bs) e in omega arith in
+    rw (same, (first_at ends_line (b ∷ bs) e).0) (lines_cut b bs)
 
--- the same of a line that no newline ends
-pub last_line : (xs : List ℕ) (n : ℕ) → 0 < length xs → n ≡ leading in_line xs → length xs ≤ n →
-    lines_of xs ≡ xs ∷ lines_of (drop n xs)
-last_line xs n h e k =
-    let none : length xs ≤ n + 1 = omega arith in
-    let line : take n xs ≡ xs = take_all n xs k in
-    let rest : drop (n + 1) xs ≡ drop n xs = drop_all (n + 1) xs none ∙ sym (drop_all n xs k) in
-    first_line xs n h e ∙ cc
+-- a text without a newline is one line
+pub last_line : (xs : List ℕ) → 0 < length xs → None ≡ position ends_line xs → lines_of xs ≡ xs ∷ []
+last_line [] h e = absurd (omega arith)
+last_line (b ∷ bs) h e =
+    let none : length (b ∷ bs) ≤ size (b ∷ bs) = none_first ends_line (b ∷ bs) e in
+    let line : take (size (b ∷ bs)) (b ∷ bs) ≡ b ∷ bs = take_all (size (b ∷ bs)) (b ∷ bs) none in
+    let rest : drop (1 + size (b ∷ bs)) (b ∷ bs) ≡ [] = drop_all (1 + size (b ∷ bs)) (b ∷ bs) (omega arith) in
+    lines_cut b bs ∙ cc
+
+-- each line took a byte
+pub lines_count : (xs : List ℕ) → length (lines_of xs) ≤ length xs
+lines_count [] = omega arith
+lines_count (b ∷ bs) = at (ends_line b) (lines_of bs) (lines_count bs)
+  where
+    at : (v : Bool) (ls : List (List ℕ)) → length ls ≤ length bs →
+        length (cond v ([] ∷ ls) (onto b ls)) ≤ length (b ∷ bs)
+    at true ls h = omega arith
+    at false [] h = omega arith
+    at false (l ∷ ls) h = omega arith

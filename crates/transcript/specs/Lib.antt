@@ -1,4 +1,3 @@
-pub mod Leading
 pub mod Cuts
 pub mod Lines
 pub mod Words

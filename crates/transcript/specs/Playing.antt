@@ -1,15 +1,15 @@
 -- What is answered to lines of commands, and what they make of a record.
-use Rattle.std.specs.Prelude.{ℕ, ◌+◌, cond, List, [], ◌∷◌, ◌++◌, Some, None, codes, decimal, Option}
+use Rattle.std.specs.Prelude.{ℕ, ◌+◌, cond, List, [], ◌∷◌, ◌++◌, Some, None, Ok, Err, codes, decimal, Option, Result}
+use Rattle.record.specs.Command.{number_of}
 use Rattle.record.specs.Kind.{Taking}
 use Rattle.record.specs.declared.command.Command.{Command}
-use Rattle.transcript.specs.declared.answer.Answer.{Answer}
-use Rattle.transcript.specs.declared.answer.Answer.TheVariants.{Taken, Refused, NoCommand}
+use Rattle.record.specs.declared.command.Unlawful.{Unlawful}
 use Rattle.transcript.specs.CommandLine.{command_of}
 
--- what came of a line: a lawful command is taken, an unlawful one gets 10
-abbrev pub answer_to : Taking → Option Command → Answer
-answer_to T None = NoCommand
-answer_to T (Some c) = cond (T.lawful c) Taken (Refused 10)
+-- what came of a line: a lawful command is taken, an unlawful one is refused
+abbrev pub answer_to : Taking → Option Command → Option (Result (Unit {0}) Unlawful)
+answer_to T None = None
+answer_to T (Some c) = Some (cond (T.lawful c) (Ok tt) (Err record {}))
 
 -- the list that is told after a line, from the list before
 abbrev pub told_after : Taking → List ℕ → Option Command → List ℕ
@@ -17,13 +17,13 @@ told_after T list None = list
 told_after T list (Some c) = cond (T.lawful c) (T.after list c) list
 
 -- an answer in words
-abbrev pub answer_words : Answer → List ℕ
-answer_words Taken = codes "taken"
-answer_words (Refused n) = codes "refused " ++ decimal n
-answer_words NoCommand = codes "no command"
+abbrev pub answer_words : Option (Result (Unit {0}) Unlawful) → List ℕ
+answer_words (Some (Ok u)) = codes "taken"
+answer_words (Some (Err e)) = codes "refused " ++ decimal (number_of e)
+answer_words None = codes "no command"
 
 -- the answer to the line of this number
-abbrev pub answer_text : ℕ → Answer → List ℕ
+abbrev pub answer_text : ℕ → Option (Result (Unit {0}) Unlawful) → List ℕ
 answer_text number a = codes "line " ++ (decimal number ++ (codes ": " ++ (answer_words a ++ codes "\n")))
 
 -- the answers to these lines, of which the first has this number

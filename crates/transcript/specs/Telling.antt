@@ -1,49 +1,60 @@
 -- What is printed of the list that a record tells.
 use Rattle.std.specs.Prelude.{ℕ, zero, suc, ◌+◌, ◌*◌, min, cond}
-use Rattle.std.specs.Prelude.{List, [], ◌∷◌, ◌++◌, pos, ◌-ℤ◌, codes, decimal, ◌==◌, slice_index}
+use Rattle.std.specs.Prelude.{List, [], ◌∷◌, ◌++◌, pos, ◌-ℤ◌, codes, decimal, ◌==◌, slice_index, drop}
 use Rattle.std.specs.Fmt.{signed_decimal}
+use Rattle.transcript.specs.declared.book_state.BookState.{BookState}
+use Rattle.transcript.specs.declared.book_state.BookState.TheVariants.{Open, Closed}
+use Rattle.transcript.specs.declared.player.Round.{Round}
 
 -- the balance, which is the first number
 abbrev pub balance_text : List ℕ → List ℕ
 balance_text list = codes "balance " ++ (decimal (slice_index list 0) ++ codes "\n")
 
 -- a book is open at 0, and closed at any other number
-abbrev pub book_state : ℕ → List ℕ
-book_state n = cond (n == 0) (codes "open") (codes "closed")
+abbrev pub state_told : ℕ → BookState
+state_told n = cond (n == 0) Open Closed
+
+abbrev pub state_words : BookState → List ℕ
+state_words Open = codes "open"
+state_words Closed = codes "closed"
 
 -- the state of the book, which is the first number
 abbrev pub book_text : List ℕ → List ℕ
-book_text list = codes "book " ++ (book_state (slice_index list 0) ++ codes "\n")
+book_text list = codes "book " ++ (state_words (state_told (slice_index list 0)) ++ codes "\n")
 
 -- what stands before a player's round: nothing before the first, and else a comma
 abbrev pub before_round : ℕ → List ℕ
 before_round k = cond (k == 0) [] (codes ", ")
 
--- one round of a player, of whom 41 numbers are told: a count, and for each round a day and an amount plus 10,000
-abbrev pub round_text : List ℕ → ℕ → ℕ → List ℕ
-round_text list player k =
-    before_round k ++ (codes "day " ++ (decimal (slice_index list (41 * player + 2 * k + 1)) ++
-    (codes " amount " ++ signed_decimal (pos (slice_index list (41 * player + 2 * k + 2)) -ℤ pos 10000))))
+-- a round in words
+abbrev pub round_words : Round → List ℕ
+round_words r = codes "day " ++ (decimal r.day ++ (codes " amount " ++ signed_decimal r.amount))
+
+-- one round of a player, of whom a count is told, and for each round a day and an amount plus 10,000
+abbrev pub round_at : List ℕ → ℕ → Round
+round_at told k = record {
+  day = slice_index told (2 * k + 1);
+  amount = pos (slice_index told (2 * k + 2)) -ℤ pos 10000;
+}
 
 -- the first k rounds of a player
-unfoldable pub rounds_until : List ℕ → ℕ → ℕ → List ℕ
-rounds_until list player zero = []
-rounds_until list player (suc k) = rounds_until list player k ++ round_text list player k
+unfoldable pub rounds_until : List ℕ → ℕ → List ℕ
+rounds_until told zero = []
+rounds_until told (suc k) = rounds_until told k ++ (before_round k ++ round_words (round_at told k))
 
 -- how many rounds a player has, no more than 20
-abbrev pub rounds_count : List ℕ → ℕ → ℕ
-rounds_count list player = min (slice_index list (41 * player)) 20
+abbrev pub rounds_count : List ℕ → ℕ
+rounds_count told = min (slice_index told 0) 20
 
 -- the line of a player, if there is a round
 abbrev pub player_text : List ℕ → ℕ → List ℕ
-player_text list player = cond (rounds_count list player == 0) []
-    (codes "player " ++ (decimal player ++ (codes ": " ++
-    (rounds_until list player (rounds_count list player) ++ codes "\n"))))
+player_text told player = cond (rounds_count told == 0) []
+    (codes "player " ++ (decimal player ++ (codes ": " ++ (rounds_until told (rounds_count told) ++ codes "\n"))))
 
--- the lines of the players before this one
+-- the lines of the players before this one, of each of whom 41 numbers are told
 unfoldable pub players_until : List ℕ → ℕ → List ℕ
 players_until list zero = []
-players_until list (suc player) = players_until list player ++ player_text list player
+players_until list (suc player) = players_until list player ++ player_text (drop (41 * player) list) player
 
 -- a text, or where it is empty another one
 abbrev pub or_else : List ℕ → List ℕ → List ℕ
@@ -53,3 +64,7 @@ or_else (b ∷ bs) other = b ∷ bs
 -- the lines of all eight players, or that there is no round
 abbrev pub rounds_text : List ℕ → List ℕ
 rounds_text list = or_else (players_until list 8) (codes "no rounds\n")
+
+-- of the pair the kitty, then the book, then what is below the book
+abbrev pub both_text : List ℕ → List ℕ
+both_text list = (balance_text list ++ book_text (drop 1 list)) ++ rounds_text (drop 2 list)

@@ -1,5 +1,5 @@
 -- Everything that is printed for an input.
-use Rattle.std.specs.Prelude.{◌≡◌, ℕ, List, [], ◌∷◌, ◌++◌, drop, Some, None, codes, Option}
+use Rattle.std.specs.Prelude.{ℕ, List, [], ◌∷◌, ◌++◌, Some, None, codes, Option}
 use Rattle.record.specs.ClosingBook.{closing_kind}
 use Rattle.record.specs.Kind.{Taking, Kind}
 use Rattle.record.specs.Kitty.{kitty_kind}
@@ -8,7 +8,7 @@ use Rattle.record.specs.Rounds.{rounds_kind}
 use Rattle.transcript.specs.CommandLine.{choice_of}
 use Rattle.transcript.specs.Lines.{lines_of}
 use Rattle.transcript.specs.Playing.{answers_text, list_after}
-use Rattle.transcript.specs.Telling.{balance_text, book_text, rounds_text}
+use Rattle.transcript.specs.Telling.{balance_text, rounds_text, both_text}
 use Rattle.transcript.specs.declared.choice.Choice.{Choice}
 use Rattle.transcript.specs.declared.choice.Choice.TheVariants.{Kitty, Rounds, Both}
 
@@ -18,21 +18,19 @@ kind_of Kitty = kitty_kind
 kind_of Rounds = rounds_kind
 kind_of Both = pair_kind kitty_kind (closing_kind rounds_kind)
 
--- what is printed of the list that it tells: of the pair the kitty, then the book, then what is below the book
+-- what is printed of the list that it tells
 abbrev pub list_text : Choice → List ℕ → List ℕ
 list_text Kitty list = balance_text list
 list_text Rounds list = rounds_text list
-list_text Both list = (balance_text list ++ book_text (drop 1 list)) ++ rounds_text (drop 2 list)
+list_text Both list = both_text list
 
--- the answers to the lines, and then what the record tells after them
+-- the answers to the lines, and then what a record that was new before them tells
+abbrev pub text_after : Taking → (List ℕ → List ℕ) → List (List ℕ) → List ℕ
+text_after T shown lines = answers_text T 2 lines ++ shown (list_after T T.first lines)
+
+-- the same of the record of a choice
 abbrev pub played_text : Choice → List (List ℕ) → List ℕ
-played_text choice lines =
-    answers_text (kind_of choice).taking 2 lines ++
-    list_text choice (list_after (kind_of choice).taking (kind_of choice).taking.first lines)
-
--- the answers to the lines and the list after them, from a new record
-abbrev pub PlayedBy : Taking → List (List ℕ) → List ℕ → List ℕ → Type 0
-PlayedBy T lines answers list = (answers ≡ answers_text T 2 lines) × (list ≡ list_after T T.first lines)
+played_text choice lines = text_after (kind_of choice).taking (list_text choice) lines
 
 -- what is printed if the first line names this choice
 abbrev pub text_by_choice : Option Choice → List (List ℕ) → List ℕ

@@ -1,9 +1,9 @@
 ghost use Rattle.std.specs.Prelude.{◌≡◌};
-ghost use Rattle.transcript.specs.CommandLine.{command_from, command_of, choice_numbered, choice_of};
+ghost use Rattle.transcript.specs.CommandLine.{command_from, command_of, choice_of};
 
 use crate::choice::Choice;
 use crate::numbers::{integer, natural};
-use crate::words::next_word;
+use crate::words::Words;
 use record::command::Command;
 
 // The command of four words, if each writes a number that fits.
@@ -11,15 +11,11 @@ fn command_from(verb: &[u8], subject: &[u8], day: &[u8], amount: &[u8]) -> Optio
     ensures { result ≡
         command_from verb.now subject.now day.now amount.now }
 {
-    let verb = natural(verb, 255)?;
-    let subject = natural(subject, u16::MAX)?;
-    let day = natural(day, u16::MAX)?;
-    let amount = integer(amount)?;
     Some(Command {
-        verb: verb as u8,
-        subject,
-        day,
-        amount,
+        verb: natural(verb, 255)? as u8,
+        subject: natural(subject, u16::MAX)?,
+        day: natural(day, u16::MAX)?,
+        amount: integer(amount)?,
     })
 }
 
@@ -27,25 +23,14 @@ fn command_from(verb: &[u8], subject: &[u8], day: &[u8], amount: &[u8]) -> Optio
 pub(crate) fn command_of(line: &[u8]) -> Option<Command>
     ensures { result ≡ command_of line.now }
 {
-    let (verb, line) = next_word(line)?;
-    let (subject, line) = next_word(line)?;
-    let (day, line) = next_word(line)?;
-    let (amount, line) = next_word(line)?;
-    match next_word(line) {
+    let mut words = Words(line);
+    let verb = words.next()?;
+    let subject = words.next()?;
+    let day = words.next()?;
+    let amount = words.next()?;
+    match words.next() {
         None => command_from(verb, subject, day, amount),
         Some(_) => None,
-    }
-}
-
-// The choice of a number.
-fn choice_numbered(number: u16) -> Option<Choice>
-    ensures { result ≡ choice_numbered number }
-{
-    match number {
-        1 => Some(Choice::Kitty),
-        2 => Some(Choice::Rounds),
-        3 => Some(Choice::Both),
-        _ => None,
     }
 }
 
@@ -53,9 +38,10 @@ fn choice_numbered(number: u16) -> Option<Choice>
 pub(crate) fn choice_of(line: &[u8]) -> Option<Choice>
     ensures { result ≡ choice_of line.now }
 {
-    let (word, line) = next_word(line)?;
-    match next_word(line) {
-        None => choice_numbered(natural(word, 255)?),
+    let mut words = Words(line);
+    let word = words.next()?;
+    match words.next() {
+        None => Choice::try_from(natural(word, 255)?).ok(),
         Some(_) => None,
     }
 }

@@ -1,32 +1,39 @@
-ghost use Rattle.std.specs.Prelude.{◌≡◌, ◌≤◌, length};
-ghost use Rattle.transcript.specs.Cuts.{cut, Shorter};
-ghost use Rattle.transcript.specs.Leading.{leading};
-ghost use Rattle.transcript.specs.Lines.{lines_of, in_line};
+ghost use Rattle.std.specs.Prelude.{◌≡◌, position};
+ghost use Rattle.std.specs.Iterator.{YieldsFirstRef, item_count};
+ghost use Rattle.transcript.specs.Lines.{ends_line, lines_of};
 
-// How many bytes the first line has.
-fn line_size(text: &[u8]) -> usize
-    ensures value { result ≡ leading in_line text.now }
-    ensures within { result ≤ length text.now }
+// The lines of a text, one after another. A newline ends a line, so that a last one opens no further line.
+#[derive(Drop)]
+pub(crate) struct Lines<'a>(pub &'a [u8]);
+
+// Where the first newline stands.
+fn newline_place(text: &[u8]) -> Option<usize>
+    ensures { result ≡ position ends_line text.now }
 {
-    for (i, byte) in text.iter().enumerate() {
-        if *byte == b'\n' {
-            return i;
-        }
-    }
-    text.len()
+    text.iter().position(|byte| *byte == b'\n')
 }
 
-// The first line of a text and what follows it; nothing where the text is empty.
-pub(crate) fn next_line(text: &[u8]) -> Option<(&[u8], &[u8])>
-    ensures lines { lines_of text.now ≡ cut lines_of result }
-    ensures shorter { Shorter text.now result }
-{
-    if text.is_empty() {
-        return None;
+impl<'a> Iterator for Lines<'a> {
+    type Item = &'a [u8];
+
+    ghost next_gives = { YieldsFirstRef (λ s. lines_of s.0.now) };
+
+    ghost remaining = { item_count (λ s. lines_of s.0.now) };
+
+    fn next(&mut self) -> Option<&'a [u8]> {
+        let text = self.0;
+        if text.is_empty() {
+            return None;
+        }
+        match newline_place(text) {
+            Some(size) => {
+                self.0 = &text[size + 1..];
+                Some(&text[..size])
+            }
+            None => {
+                self.0 = &[];
+                Some(text)
+            }
+        }
     }
-    let size = line_size(text);
-    if size == text.len() {
-        return Some((text, &text[size..]));
-    }
-    Some((&text[..size], &text[size + 1..]))
 }

@@ -1,20 +1,16 @@
 ghost use Rattle.std.specs.Prelude.{◌≡◌};
-ghost use Rattle.transcript.specs.Numbers.{with_digit, natural, below_zero, above_zero, integer, AtMost};
+ghost use Rattle.transcript.specs.Numbers.{with_digit, natural, integer, AtMost};
 
 // A number with one more digit; nothing at another byte, and nothing above the limit.
 fn with_digit(number: u16, byte: u8, limit: u16) -> Option<u16>
     ensures value { result ≡ with_digit limit number byte }
     ensures bound { AtMost limit result }
 {
-    if byte < b'0' || byte > b'9' {
+    if !byte.is_ascii_digit() {
         return None;
     }
     let longer = 10 * u32::from(number) + u32::from(byte - b'0');
-    if longer <= u32::from(limit) {
-        Some(longer as u16)
-    } else {
-        None
-    }
+    u16::try_from(longer).ok().filter(|longer| *longer <= limit)
 }
 
 // The number that a word writes, up to a limit.
@@ -25,27 +21,8 @@ pub(crate) fn natural(word: &[u8], limit: u16) -> Option<u16>
     if word.is_empty() {
         return None;
     }
-    let mut number = 0;
-    for byte in word {
-        number = with_digit(number, *byte, limit)?;
-    }
-    Some(number)
-}
-
-// The opposite of the number that a word writes.
-fn below_zero(word: &[u8]) -> Option<i16>
-    ensures { result ≡ below_zero word.now }
-{
-    let number = natural(word, 32_768)?;
-    Some((0 - i32::from(number)) as i16)
-}
-
-// The number that a word writes, as an amount.
-fn above_zero(word: &[u8]) -> Option<i16>
-    ensures { result ≡ above_zero word.now }
-{
-    let number = natural(word, 32_767)?;
-    Some(number as i16)
+    word.iter()
+        .try_fold(0, |number, byte| with_digit(number, *byte, limit))
 }
 
 // The amount that a word writes: a number, or `-` and a number.
@@ -53,7 +30,7 @@ pub(crate) fn integer(word: &[u8]) -> Option<i16>
     ensures { result ≡ integer word.now }
 {
     match word {
-        [b'-', digits @ ..] => below_zero(digits),
-        _ => above_zero(word),
+        [b'-', digits @ ..] => 0_i16.checked_sub_unsigned(natural(digits, 32_768)?),
+        _ => 0_i16.checked_add_unsigned(natural(word, 32_767)?),
     }
 }

@@ -1,49 +1,43 @@
-ghost use Rattle.std.specs.Prelude.{◌≡◌, ◌≤◌, length};
-ghost use Rattle.transcript.specs.Cuts.{cut};
-ghost use Rattle.transcript.specs.Leading.{leading};
+ghost use Rattle.std.specs.Prelude.{◌≡◌, position};
+ghost use Rattle.std.specs.Iterator.{YieldsFirstRef, item_count};
 ghost use Rattle.transcript.specs.Words.{is_blank, in_word, words_of};
+
+// The words of a line, one after another: the runs of bytes that are not blank.
+#[derive(Drop)]
+pub(crate) struct Words<'a>(pub &'a [u8]);
 
 // Whether a byte stands between words.
 fn is_blank(byte: u8) -> bool
     ensures { result ≡ is_blank byte }
 {
-    byte == b' ' || byte == b'\t' || byte == b'\r'
+    matches!(byte, b' ' | b'\t' | b'\r')
 }
 
-// How many blanks stand at the front.
-fn blanks(line: &[u8]) -> usize
-    ensures value { result ≡ leading is_blank line.now }
-    ensures within { result ≤ length line.now }
+// Where the first word of a line begins.
+fn word_start(line: &[u8]) -> Option<usize>
+    ensures { result ≡ position in_word line.now }
 {
-    for (i, byte) in line.iter().enumerate() {
-        if !is_blank(*byte) {
-            return i;
-        }
-    }
-    line.len()
+    line.iter().position(|byte| !is_blank(*byte))
 }
 
-// How many bytes the word at the front has.
-fn word_size(line: &[u8]) -> usize
-    ensures value { result ≡ leading in_word line.now }
-    ensures within { result ≤ length line.now }
+// Where the next blank stands.
+fn blank_place(text: &[u8]) -> Option<usize>
+    ensures { result ≡ position is_blank text.now }
 {
-    for (i, byte) in line.iter().enumerate() {
-        if is_blank(*byte) {
-            return i;
-        }
-    }
-    line.len()
+    text.iter().position(|byte| is_blank(*byte))
 }
 
-// The first word of a line and what follows it; nothing where the line has no word.
-pub(crate) fn next_word(line: &[u8]) -> Option<(&[u8], &[u8])>
-    ensures { words_of line.now ≡ cut words_of result }
-{
-    let text = &line[blanks(line)..];
-    let size = word_size(text);
-    if size == 0 {
-        return None;
+impl<'a> Iterator for Words<'a> {
+    type Item = &'a [u8];
+
+    ghost next_gives = { YieldsFirstRef (λ s. words_of s.0.now) };
+
+    ghost remaining = { item_count (λ s. words_of s.0.now) };
+
+    fn next(&mut self) -> Option<&'a [u8]> {
+        let text = &self.0[word_start(self.0)?..];
+        let (word, rest) = text.split_at(blank_place(text).unwrap_or(text.len()));
+        self.0 = rest;
+        Some(word)
     }
-    Some((&text[..size], &text[size..]))
 }

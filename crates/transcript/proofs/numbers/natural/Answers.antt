@@ -1,34 +1,14 @@
-use Rattle.std.proofs.Common.{◌<◌, length, ◌∙◌, arith, rules}
-use Rattle.transcript.proofs.Digits.{natural_digits, digit_read, digit_refused, digits_over}
+use Rattle.std.proofs.Common.{◌≡◌, ◌<◌, length, ◌∙◌, rules}
+use Rattle.transcript.specs.Numbers.{digits_value}
+use Rattle.transcript.proofs.Digits.{natural_bound, natural_digits, digits_ran}
 use Rattle.transcript.proofs.numbers.natural.Goals as goal
-
-pub returns-in_err-number : goal.returns-in_err-number
-returns-in_err-number c =
-    let word = c.args.word.now in
-    let turn = c.loop-byte in
-    let some : 0 < length word = omega arith in
-    let refused = digit_refused c.args.limit turn.number turn.byte-index word _ turn.invariant.0
-    c.loop-byte-test.true c.in_err-number.ensures.value in
-    record {
-      value = c.from_residual.ensures ∙ refused ∙ natural_digits c.args.limit word some;
-      bound = rw c.from_residual.ensures tt;
-    }
-
-pub loop-byte-preserved : goal.loop-byte-preserved
-loop-byte-preserved c =
-    let word = c.args.word.now in
-    let turn = c.loop-byte in
-    let read = c.in_ok-number in (
-      digit_read c.args.limit turn.number turn.byte-index word _ turn.invariant.0
-          read.number c.loop-byte-test.true read.ensures.value,
-      read.ensures.bound,
-    )
 
 pub returns : goal.returns
 returns c =
     let word = c.args.word.now in
-    let turn = c.loop-byte in
+    let limit = c.args.limit in
     let some : 0 < length word = search rules in
-    let over = digits_over c.args.limit turn.number turn.byte-index word _ turn.invariant.0
-    c.loop-byte-test.false in
-    record { value = over ∙ natural_digits c.args.limit word some; bound = turn.invariant.1 }
+    let read : c.try_fold.result ≡ digits_value limit 0 c.iter.result.rest.now =
+    digits_ran _ _ _ limit (λ n x v h called. search rules) c.try_fold.ensures.ran in
+    let value = read ∙ rw c.iter.ensures.rest (natural_digits limit word some) in
+    record { value = value; bound = rw value (natural_bound limit word) }
