@@ -41,9 +41,9 @@ impl Told for Pair<Kitty, ClosingBook<Rounds>> {
     ghost shown = { both_text };
 
     fn told_text(heap: Global, list: &[u32]) -> Result<String, AllocError> {
-        let mut text = balance_text(heap, list)?;
-        text.push_str(book_text(heap, part_from(list, 1))?.as_str())?;
-        text.push_str(rounds_text(heap, part_from(list, 2))?.as_str())?;
-        Ok(text)
+        let balance = balance_text(heap, list)?;
+        let book = book_text(heap, part_from(list, 1))?;
+        let rounds = rounds_text(heap, part_from(list, 2))?;
+        format!(in heap; "{balance}{book}{rounds}")
     }
 }
