@@ -5,3 +5,4 @@ pub mod WordCuts
 pub mod Digits
 pub mod Played
 pub mod RoundsText
+pub mod Parts

@@ -17,7 +17,7 @@ pub struct Round {
     pub amount: i64,
 }
 
-// A player, and the numbers that are told from this player's on.
+// A player, and the numbers that are told of this player.
 #[derive(Clone, Copy, Debug)]
 pub struct Player<'a> {
     pub number: u8,
@@ -41,6 +41,7 @@ impl Player<'_> {
     }
 
     // One of the rounds.
+    // Stays: a list may hold anything, and a round whose numbers it leaves out counts as zeros, so places are asked one by one.
     fn round(&self, round: u8) -> Round
         ensures { result ≡ round_at self.now.told.now round }
     {

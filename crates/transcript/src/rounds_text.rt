@@ -2,7 +2,6 @@ ghost use Rattle.std.specs.Prelude.{◌≡◌, IfOk, string_bytes};
 ghost use Rattle.transcript.specs.Telling.{rounds_text};
 
 use crate::player::Player;
-use crate::told_text::part_from;
 use std::alloc::{AllocError, Global};
 
 // How many players there are.
@@ -16,8 +15,7 @@ pub(crate) fn rounds_text(heap: Global, list: &[u32]) -> Result<String, AllocErr
     ensures { IfOk result (λ s. string_bytes s ≡ rounds_text list.now) }
 {
     let mut text = String::new(heap);
-    for number in 0..PLAYERS {
-        let told = part_from(list, NUMBERS * usize::from(number));
+    for (number, told) in (0..PLAYERS).zip(list.chunks(NUMBERS)) {
         write!(text, "{}", Player { number, told })?;
     }
     if text.is_empty() {
