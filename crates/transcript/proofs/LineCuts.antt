@@ -1,7 +1,8 @@
 -- The first line is what stands before the first newline.
-use Rattle.std.proofs.Common.{◌≡◌, ℕ, ◌+◌, ◌<◌, ◌≤◌, Bool, true, false, cond, not, eqb}
-use Rattle.std.proofs.Common.{List, [], ◌∷◌, length, take, drop, Some, None, refl, ap, ◌∙◌, arith}
-use Rattle.std.proofs.Math.Numerals.{one-add}
+use Rattle.std.proofs.Common.{◌≡◌, ℕ, ◌+◌, ◌<◌, ◌≤◌}
+use Rattle.std.proofs.Common.{List, [], ◌∷◌, length, take, drop, Some, None, ◌∙◌, arith}
+use Rattle.std.proofs.lemmas.Bool.Decides.{nat_tests}
+use Rattle.std.proofs.lemmas.Grind.{common_steps}
 use Rattle.std.proofs.lemmas.List.{take_all, drop_all}
 use Rattle.std.specs.List.{position, position_or_len}
 use Rattle.transcript.proofs.Firsts.{none_first, first_at}
@@ -15,15 +16,8 @@ size xs = position_or_len ends_line xs
 -- a text that is not empty is its first line, and behind a newline the other lines
 lines_cut : (b : ℕ) (bs : List ℕ) → lines_of (b ∷ bs) ≡
     take (size (b ∷ bs)) (b ∷ bs) ∷ lines_of (drop (1 + size (b ∷ bs)) (b ∷ bs))
-lines_cut b [] =
-    elim (eqb b 10) as (λ v. cond v ([] ∷ []) ((b ∷ []) ∷ []) ≡
-    take (cond (not v) 1 0) (b ∷ []) ∷ lines_of (drop (1 + cond (not v) 1 0) (b ∷ [])))
-    [ true ↦ refl | false ↦ refl ]
-lines_cut b (d ∷ ds) =
-    let n = size (d ∷ ds) in
-    elim (eqb b 10) as (λ v. cond v ([] ∷ lines_of (d ∷ ds)) (onto b (lines_of (d ∷ ds))) ≡
-    take (cond (not v) (1 + n) 0) (b ∷ (d ∷ ds)) ∷ lines_of (drop (1 + cond (not v) (1 + n) 0) (b ∷ (d ∷ ds))))
-    [ true ↦ refl | false ↦ simp one-add (ap (onto b) (simp one-add at (lines_cut d ds))) ]
+lines_cut b [] = grind (arith, common_steps)
+lines_cut b (d ∷ ds) = grind (arith, common_steps, lines_cut d ds)
 
 -- the first line goes up to the first newline
 pub first_line : (xs : List ℕ) (n : ℕ) → 0 < length xs → Some n ≡ position ends_line xs →
@@ -43,12 +37,10 @@ last_line (b ∷ bs) h e =
     lines_cut b bs ∙ cc
 
 -- each line took a byte
+onto_count : (b : ℕ) (ls : List (List ℕ)) → length (onto b ls) ≤ length ls + 1
+onto_count b [] = omega arith
+onto_count b (l ∷ ls) = omega arith
+
 pub lines_count : (xs : List ℕ) → length (lines_of xs) ≤ length xs
 lines_count [] = omega arith
-lines_count (b ∷ bs) = at (ends_line b) (lines_of bs) (lines_count bs)
-  where
-    at : (v : Bool) (ls : List (List ℕ)) → length ls ≤ length bs →
-        length (cond v ([] ∷ ls) (onto b ls)) ≤ length (b ∷ bs)
-    at true ls h = omega arith
-    at false [] h = omega arith
-    at false (l ∷ ls) h = omega arith
+lines_count (b ∷ bs) = grind (arith, nat_tests, lines_count bs, onto_count b (lines_of bs))
