@@ -13,7 +13,7 @@ use Rattle.chooser.specs.declared.log.Log.{Log}
 use Rattle.chooser.specs.declared.log.stage.Stage.{Stage}
 use Rattle.chooser.specs.Rules.{ruled_sound}
 use Rattle.chooser.proofs.Rules.{ruled_proposes}
-use Rattle.chooser.proofs.Tables.{with_one, none_there}
+use Rattle.chooser.proofs.Tables.{none_there}
 use Rattle.protocol.specs.Sets.{count}
 use Rattle.rows.specs.Causes.{answer, outcome, unless}
 use Rattle.rows.specs.Conflicts.{no_command}
@@ -50,11 +50,17 @@ idle = record { ring = idle_ring; tray = replicate 8 no_letter; book = replicate
 
 -- a stage without proposals
 abbrev no_proposals : Stage
-no_proposals = record { count = 0; proposals = replicate 7 no_proposal }
+no_proposals = record {
+  count = 0;
+  proposals = replicate 7 no_proposal;
+  places = refl;
+  within = omega arith;
+  each_once = refl;
+}
 
 -- a log without proposals
 abbrev new_log : Log
-new_log = record { stages = replicate 32 no_proposals; sound = refl }
+new_log = record { stages = replicate 32 no_proposals }
 
 -- the world at the start
 abbrev start : World
@@ -180,11 +186,17 @@ settle₈ = settled_by settle₇ 0 (0, 3)
 
 -- the first stage once node 0 has proposed
 abbrev one_proposal : Stage
-one_proposal = with_one no_proposals (proposal_of 0 (0, 3))
+one_proposal = record {
+  count = 1;
+  proposals = set no_proposals.proposals 0 (proposal_of 0 (0, 3));
+  places = refl;
+  within = omega arith;
+  each_once = refl;
+}
 
 -- the log with that stage
 abbrev longer_log : Log
-longer_log = record { stages = set new_log.stages 0 one_proposal; sound = refl }
+longer_log = record { stages = set new_log.stages 0 one_proposal }
 
 -- it has that proposal more
 appends : Appends new_log 1 0 (0, 3) (Ok tt) longer_log

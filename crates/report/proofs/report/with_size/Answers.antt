@@ -14,5 +14,5 @@ returns-in-FirstCome c =
 pub returns-in-Ok : goal.returns-in-Ok
 returns-in-Ok c =
     IfOk-weaker c.with_chooser-in-LowestOf.result _ _ (λ s h. by_lowest_of c.args.header c.args.size c.requires
-    (lowest_of c.in-Ok.chooser.need c.in-Ok.chooser.log) c.args.reader.bytes.now c.args.reader.place (string_bytes s) h
+    (lowest_of c.in-Ok.chooser.rule.need c.in-Ok.chooser.log) c.args.reader.bytes.now c.args.reader.place (string_bytes s) h
     c.in-LowestOf.is c.in-Ok.ensures.1) c.with_chooser-in-LowestOf.ensures
