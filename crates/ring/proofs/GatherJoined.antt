@@ -1,5 +1,5 @@
 -- The step of a gathering node keeps a world joined to the protocol.
-use Rattle.std.proofs.Common.{◌≡◌, ℕ, ◌+◌, ◌<◌, ◌≤◌, true, false, not, ◌&&◌, length, None, Ok as Done, Err, Result, sym, refl, ap}
+use Rattle.std.proofs.Common.{◌≡◌, ℕ, ◌+◌, ◌<◌, ◌≤◌, Bool, true, false, not, ◌&&◌, length, None, Ok as Done, Err, Result, sym, refl, ap}
 use Rattle.std.proofs.Common.{◌∙◌, subst, inl, inr, arith}
 use Rattle.std.proofs.lemmas.Bool.{cases_Bool, both_ways, and_parts, and_from, ltb-false}
 use Rattle.record.specs.Kind.{Kind}
@@ -12,7 +12,7 @@ use Rattle.protocol.proofs.Running.{call_ok}
 use Rattle.rows.specs.Conflicts.{conflicted, clash}
 use Rattle.rows.specs.Letters.{acknowledgement, check_letter, letter_of, no_room}
 use Rattle.rows.specs.Masks.{has, within}
-use Rattle.rows.specs.Receipts.{is_gathering}
+use Rattle.rows.specs.Receipts.{is_gathering, is_proposed}
 use Rattle.rows.specs.Rows.{undelivered, with_pending, with_phase}
 use Rattle.rows.specs.declared.letter.Letter.{Letter}
 use Rattle.rows.specs.declared.refusal.Refusal.{Refusal}
@@ -138,6 +138,7 @@ module _ {K : Kind} {z : RingSize} {need : ℕ} {low : 1 ≤ need} {high : need 
       let x = undelivered (row_of w node) in
       let l = letter_of node check_letter (row_of w node).stage (row_of w node).pending in
       let row = with_phase Closing (row_of w node) in
+      let change = becomes accepted l row in
       let parts = and_parts (has x a && has x b) (conflict K w a b) both in
       let members = and_parts (has x a) (has x b) parts.0 in
       record {
@@ -148,7 +149,11 @@ module _ {K : Kind} {z : RingSize} {need : ℕ} {low : 1 ≤ need} {high : need 
           one = subst (λ (S : Set). a ∈ S) undelivered_seen members.0;
           other = subst (λ (S : Set). b ∈ S) undelivered_seen members.1;
           sends = sends accepted l row;
-          becomes = becomes accepted l row;
+          becomes = record {
+            here = change.here
+                ∙ ap (λ (b : Bool). record (seen_node w.sheets node row) { proposed = b }) (sym (ap is_proposed gathers));
+            others = change.others;
+          };
           chooser = same_chooser K w (closed w node) M;
         }));
         fine = fine accepted l row refl refl refl;

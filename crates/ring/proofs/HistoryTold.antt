@@ -14,7 +14,7 @@ use Rattle.rows.specs.Conflicts.{no_command, command_of}
 use Rattle.rows.specs.Settlements.{settle_refusal, decided_of}
 use Rattle.rows.specs.declared.refusal.Refusal.{Refusal}
 use Rattle.rows.specs.declared.row.Phase.{Phase}
-use Rattle.rows.specs.declared.row.Phase.TheVariants.{Gathering, Closing}
+use Rattle.rows.specs.declared.row.Phase.TheVariants.{Gathering, Closing, Waiting}
 use Rattle.rows.specs.declared.row.Row.{Row}
 use Rattle.rows.specs.declared.size.RingSize.{RingSize}
 use Rattle.ring.specs.World.{World, row_of, has_crashed, with_row, table_refusal, live_refusal}
@@ -94,18 +94,18 @@ module _ (K : Kind) (w : World) (M : Meaning) (node : ℕ) (v : World) (N : Mean
   proposing_leaves (Err e) h = ap ledger h.1
 
   -- and a step of any phase
-  phase_leaves : (p : Phase) (proposed : Bool) (r : Result Step Refusal) → ByPhase K p proposed w M node r v N
+  phase_leaves : (p : Phase) (r : Result Step Refusal) → ByPhase K p w M node r v N
       → ledger v ≡ ledger w
-  phase_leaves Gathering proposed r h = gathering_leaves r h.0
-  phase_leaves Closing false r h = proposing_leaves r h
-  phase_leaves Closing true r h =
+  phase_leaves Gathering r h = gathering_leaves r h.0
+  phase_leaves Closing r h = proposing_leaves r h
+  phase_leaves Waiting r h =
       let decision = decision_for w M node in
       call_leaves (settle_refusal decision) (settled_by w node (decided_of decision)) w v h.1 (row_leaves w node _)
 
   -- and one that is turned down before its phase matters
   cause_leaves : (o : Option Refusal) (r : Result Step Refusal) → ByCause o K w M node r v N → ledger v ≡ ledger w
   cause_leaves (Some e) r h = ap ledger h.1
-  cause_leaves None r h = phase_leaves (row_of w node).phase (row_of w node).proposed r h
+  cause_leaves None r h = phase_leaves (row_of w node).phase r h
 
   -- so every step
   step_leaves : (r : Result Step Refusal) → Steps K w M node r v N → ledger v ≡ ledger w

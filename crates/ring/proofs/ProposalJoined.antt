@@ -13,7 +13,7 @@ use Rattle.protocol.proofs.Counting.{count_none}
 use Rattle.protocol.proofs.Running.{call_ok}
 use Rattle.rows.specs.Masks.{has}
 use Rattle.rows.specs.Proposals.{holding, in_majority, majority, proposed_sets, propose_refusal}
-use Rattle.rows.specs.Receipts.{from_sender, is_gathering}
+use Rattle.rows.specs.Receipts.{from_sender, is_gathering, is_proposed}
 use Rattle.rows.specs.Rows.{no_check, undelivered, with_proposed}
 use Rattle.rows.specs.declared.refusal.Refusal.{Refusal}
 use Rattle.rows.specs.declared.row.Check.{Check}
@@ -61,7 +61,7 @@ holding_count n checks m (suc k) a =
 
 module _ {K : Kind} {z : RingSize} {need : ℕ} {low : 1 ≤ need} {high : need ≤ z.q} {w : World} {M : Meaning}
     (j : Joined K z need low high w M) (node : ℕ) (lives : Lives z w.ring node)
-    (closing : (row_of w node).phase ≡ Closing) (not_yet : (row_of w node).proposed ≡ false) where
+    (closing : (row_of w node).phase ≡ Closing) where
   -- its row
   abbrev row : Row
   row = row_of w node
@@ -146,7 +146,7 @@ module _ {K : Kind} {z : RingSize} {need : ℕ} {low : 1 ≤ need} {high : need 
             live = lives_kept w.ring node (with_proposed row);
           };
           closing = ap (λ (phase : Phase). not (is_gathering phase)) closing;
-          not_yet = not_yet;
+          not_yet = ap is_proposed closing;
           enough = omega (
             arith,
             kept_count z.n row.checks row.checked its_fine.checks_apart,
@@ -156,7 +156,9 @@ module _ {K : Kind} {z : RingSize} {need : ℕ} {low : 1 ≤ need} {high : need 
           hands_in = hands_in j.chooser row.stage node (proposed_sets quorum row) lives.in_ring new appended sound
               K w (proposed_by w node) low high _ _ (majority_seen enough) (rest_seen enough);
           becomes = record {
-            here = row_seen w.sheets w.ring node (with_proposed row) (has_row f node lives.in_ring);
+            here = row_seen w.sheets w.ring node (with_proposed row) (has_row f node lives.in_ring)
+                ∙ ap (λ (b : Bool). record (seen_node w.sheets node (with_proposed row)) { closing = b })
+                (sym (ap (λ (phase : Phase). not (is_gathering phase)) closing));
             others = λ x l d. other_seen w.sheets w.ring node (with_proposed row) x d;
           };
           silent = refl;

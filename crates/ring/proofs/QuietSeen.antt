@@ -12,14 +12,14 @@ use Rattle.rows.specs.Causes.{refuse, first, outcome, unless}
 use Rattle.rows.specs.Letters.{travelling}
 use Rattle.rows.specs.Masks.{has, within}
 use Rattle.rows.specs.Proposals.{by_chooser}
-use Rattle.rows.specs.Receipts.{from_sender, is_gathering}
+use Rattle.rows.specs.Receipts.{from_sender, is_gathering, is_proposed}
 use Rattle.rows.specs.Refusals.{number_of}
 use Rattle.rows.specs.Rows.{undelivered}
 use Rattle.rows.specs.Settlements.{settle_refusal}
 use Rattle.rows.specs.declared.refusal.Refusal.{Refusal}
 use Rattle.rows.specs.declared.refusal.Refusal.TheVariants.{TrayFull, LaterStage, NodeCrashed, NothingNew, TooFewChecks}
 use Rattle.rows.specs.declared.row.Phase.{Phase}
-use Rattle.rows.specs.declared.row.Phase.TheVariants.{Gathering, Closing}
+use Rattle.rows.specs.declared.row.Phase.TheVariants.{Gathering, Closing, Waiting}
 use Rattle.rows.specs.declared.row.Row.{Row}
 use Rattle.rows.specs.declared.size.RingSize.{RingSize}
 use Rattle.ring.specs.World.{World, quorum_of, row_of, has_crashed, letter_at, letter_refusal}
@@ -102,11 +102,19 @@ beyond_stages stage l h = elim (and_cases (leb 1 stage) (leb stage 32) h) [
 gathering : (phase : Phase) → not (is_gathering phase) ≡ false → phase ≡ Gathering
 gathering Gathering h = refl
 gathering Closing h = absurd (true≢false h)
+gathering Waiting h = absurd (true≢false h)
 
--- and one that is, closes
-closing : (phase : Phase) → not (is_gathering phase) ≡ true → phase ≡ Closing
-closing Gathering h = absurd (false≢true h)
-closing Closing h = refl
+-- one that is, and has not proposed, closes
+closing : (phase : Phase) → not (is_gathering phase) ≡ true → is_proposed phase ≡ false → phase ≡ Closing
+closing Gathering h p = absurd (false≢true h)
+closing Closing h p = refl
+closing Waiting h p = absurd (true≢false p)
+
+-- and one that has waits
+waiting : (phase : Phase) → is_proposed phase ≡ true → phase ≡ Waiting
+waiting Gathering p = absurd (false≢true p)
+waiting Closing p = absurd (false≢true p)
+waiting Waiting p = refl
 
 module _ {K : Kind} {z : RingSize} {need : ℕ} {low : 1 ≤ need} {high : need ≤ z.q} {w : World} {M : Meaning}
     (j : Joined K z need low high w M) where
@@ -128,12 +136,10 @@ module _ {K : Kind} {z : RingSize} {need : ℕ} {low : 1 ≤ need} {high : need 
     row = row_of w r
 
     -- the cause is one of its phase
-    in_phase : (phase : Phase) (proposed : Bool) → row.phase ≡ phase → row.proposed ≡ proposed
-        → Refused (phase_refusal phase proposed w M r)
-    in_phase phase proposed p q =
-        subst (λ (x : Bool). Refused (phase_refusal phase x w M r)) q
-        (subst (λ (x : Phase). Refused (phase_refusal x row.proposed w M r)) p
-        (past_first (stepper_refusal w r) _ (step_allowed j.fine r l v) h))
+    in_phase : (phase : Phase) → row.phase ≡ phase → Refused (phase_refusal phase w M r)
+    in_phase phase p =
+        subst (λ (x : Phase). Refused (phase_refusal x w M r)) p
+        (past_first (stepper_refusal w r) _ (step_allowed j.fine r l v) h)
 
     -- a gathering node has acknowledged all that it has to deliver
     nothing_new : (m : ℕ) → not (is_gathering row.phase) ≡ false → m ∈ has row.received
@@ -142,11 +148,11 @@ module _ {K : Kind} {z : RingSize} {need : ℕ} {low : 1 ≤ need} {high : need 
         let b = bounds j r l in
         within_has (undelivered row) row.pending (minus_small row.received row.delivered b.received) b.pending
         (applies (within (undelivered row) row.pending) _ NothingNew
-        (in_phase Gathering row.proposed (gathering row.phase g) refl)) m
+        (in_phase Gathering (gathering row.phase g))) m
         (has_minus row.received row.delivered m b.received b.delivered ∙ and_from _ _ i (not_from_false _ o))
 
     -- one that has not proposed keeps too few checks, or its stage is beyond the chooser's, or it has
-    no_proposal : not (is_gathering row.phase) ≡ true → row.proposed ≡ false
+    no_proposal : not (is_gathering row.phase) ≡ true → is_proposed row.phase ≡ false
         → (count z.n (λ x. from_sender row.checks x row.checked) < z.q)
         ⊎ ((32 < row.stage) ⊎ (has_proposed r (M.proposals row.stage) ≡ true))
     no_proposal c p = elim (cases_Bool (ltb row.checked (quorum_of w.ring.size))) [
@@ -159,17 +165,17 @@ module _ {K : Kind} {z : RingSize} {need : ℕ} {low : 1 ≤ need} {high : need 
       | inr f ↦ inr (elim (proposal_refused (served row.stage) (ltb 6 r) (has_proposed r (M.proposals row.stage))
           (le-ltb 6 r (omega (arith, l, z.high)))
           (past (ltb row.checked (quorum_of w.ring.size)) TooFewChecks _ f
-          (in_phase Closing false (closing row.phase c) p))) [
+          (in_phase Closing (closing row.phase c p)))) [
             | inl u ↦ inl (beyond_stages row.stage (j.ok.nodes r l).stage.first u)
             | inr again ↦ inr again
           ])
     ]
 
     -- one that has proposed finds its stage undecided, or beyond the chooser's
-    no_settling : not (is_gathering row.phase) ≡ true → row.proposed ≡ true
+    no_settling : not (is_gathering row.phase) ≡ true → is_proposed row.phase ≡ true
         → (stands (M.decision row.stage) ≡ false) ⊎ (32 < row.stage)
     no_settling c p = elim (settling_refused row.stage (M.decision row.stage)
-        (in_phase Closing true (closing row.phase c) p)) [
+        (in_phase Waiting (waiting row.phase p))) [
           | inl f ↦ inl f
           | inr u ↦ inr (beyond_stages row.stage (j.ok.nodes r l).stage.first u)
         ]

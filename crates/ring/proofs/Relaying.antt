@@ -13,7 +13,7 @@ use Rattle.ring.specs.declared.ring.Ring.{Ring}
 
 module _ (r : Ring) (tray : List Letter) (l : Letter) where
   -- the tray with copies for n nodes
-  abbrev copies : ℕ → List Letter
+  abbrev pub copies : ℕ → List Letter
   copies n = sent tray r.used (letter_of l.receiver data_letter 0 l.set) n
 
   -- the ring that a relaying to n nodes leaves, by whether it is due

@@ -11,7 +11,7 @@ use Rattle.protocol.proofs.Invariant.{Ok}
 use Rattle.rows.specs.Conflicts.{command_of}
 use Rattle.rows.specs.Letters.{no_letter}
 use Rattle.rows.specs.Masks.{has}
-use Rattle.rows.specs.Receipts.{from_sender, is_gathering}
+use Rattle.rows.specs.Receipts.{from_sender, is_gathering, is_proposed}
 use Rattle.rows.specs.Rows.{no_check, on_sheet}
 use Rattle.rows.specs.declared.letter.Letter.{Letter}
 use Rattle.rows.specs.declared.row.Check.{Check}
@@ -76,7 +76,7 @@ seen_row row sheet = record {
   kept = λ x. from_sender row.checks x row.checked;
   check = λ x. has (check_from row.checks x row.checked);
   closing = not (is_gathering row.phase);
-  proposed = row.proposed;
+  proposed = is_proposed row.phase;
   sheet = sheet;
 }
 

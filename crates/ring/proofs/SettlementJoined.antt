@@ -15,13 +15,13 @@ use Rattle.protocol.specs.Runs.{settles}
 use Rattle.protocol.specs.Sets.{Set, ◌∈◌, ◌∖◌, ◌∪◌}
 use Rattle.protocol.proofs.Running.{call_ok}
 use Rattle.rows.specs.Masks.{has}
-use Rattle.rows.specs.Receipts.{is_gathering}
+use Rattle.rows.specs.Receipts.{is_gathering, is_proposed}
 use Rattle.rows.specs.Rows.{on_sheet}
 use Rattle.rows.specs.Settlements.{with_first, settled_row, settled_sheets, settle_refusal, decided_of}
 use Rattle.rows.specs.declared.refusal.Refusal.{Refusal}
 use Rattle.rows.specs.declared.refusal.Refusal.TheVariants.{Undecided, Chooser}
 use Rattle.rows.specs.declared.row.Phase.{Phase}
-use Rattle.rows.specs.declared.row.Phase.TheVariants.{Closing}
+use Rattle.rows.specs.declared.row.Phase.TheVariants.{Waiting}
 use Rattle.rows.specs.declared.row.Row.{Row}
 use Rattle.rows.specs.declared.size.RingSize.{RingSize}
 use Rattle.ring.specs.World.{World, row_of}
@@ -49,7 +49,7 @@ told_stands false o h = not_some (Chooser NoSuchStage) h
 
 module _ {K : Kind} {z : RingSize} {need : ℕ} {low : 1 ≤ need} {high : need ≤ z.q} {w : World} {M : Meaning}
     (j : Joined K z need low high w M) (node : ℕ) (lives : Lives z w.ring node)
-    (closing : (row_of w node).phase ≡ Closing) (proposed : (row_of w node).proposed ≡ true) where
+    (waiting : (row_of w node).phase ≡ Waiting) where
   -- its row
   abbrev row : Row
   row = row_of w node
@@ -177,8 +177,8 @@ module _ {K : Kind} {z : RingSize} {need : ℕ} {low : 1 ≤ need} {high : need 
               book = record { messages = refl; conflict = refl; broadcaster = refl };
               live = lives_kept w.ring node (settled_row decided row);
             };
-            closing = ap (λ (phase : Phase). not (is_gathering phase)) closing;
-            proposed = proposed;
+            closing = ap (λ (phase : Phase). not (is_gathering phase)) waiting;
+            proposed = ap is_proposed waiting;
             decided = ap stands decision;
             becomes = record {
               here = row_seen written w.ring node (settled_row decided row) (has_row f node lives.in_ring)

@@ -15,7 +15,7 @@ use Rattle.rows.specs.Rows.{undelivered}
 use Rattle.rows.specs.Settlements.{settle_refusal, decided_of}
 use Rattle.rows.specs.declared.refusal.Refusal.{Refusal}
 use Rattle.rows.specs.declared.row.Phase.{Phase}
-use Rattle.rows.specs.declared.row.Phase.TheVariants.{Gathering, Closing}
+use Rattle.rows.specs.declared.row.Phase.TheVariants.{Gathering, Closing, Waiting}
 use Rattle.rows.specs.declared.row.Row.{Row}
 use Rattle.rows.proofs.Anys.{any_is}
 use Rattle.ring.specs.World.{World, quorum_of, row_of}
@@ -29,14 +29,14 @@ use Rattle.ring.proofs.Causes.{refuse_none, proposal_none}
 -- ---- the causes of a step
 
 -- those of the phase
-abbrev pub phase_refusal : Phase → Bool → World → Meaning → ℕ → Option Refusal
-phase_refusal Gathering proposed w M node = gather_refusal w node
-phase_refusal Closing false w M node = propose_refusal (quorum_of w.ring.size) node (row_of w node) M
-phase_refusal Closing true w M node = settle_refusal (decision_for w M node)
+abbrev pub phase_refusal : Phase → World → Meaning → ℕ → Option Refusal
+phase_refusal Gathering w M node = gather_refusal w node
+phase_refusal Closing w M node = propose_refusal (quorum_of w.ring.size) node (row_of w node) M
+phase_refusal Waiting w M node = settle_refusal (decision_for w M node)
 
 -- all of them
 abbrev pub step_refusal : World → Meaning → ℕ → Option Refusal
-step_refusal w M node = first (stepper_refusal w node) (phase_refusal (row_of w node).phase (row_of w node).proposed w M node)
+step_refusal w M node = first (stepper_refusal w node) (phase_refusal (row_of w node).phase w M node)
 
 -- ---- one proposal more
 
@@ -164,9 +164,9 @@ module _ (K : Kind) (w : World) (M : Meaning) (sound : Sound M) (node : ℕ) whe
   quorum = quorum_of w.ring.size
 
   -- a gathering node acknowledges, or closes because of any two conflicting messages
-  gathering_answers : (proposed : Bool) (o : Option Refusal) → gather_refusal w node ≡ o
-      → Answers (ByPhase K Gathering proposed w M node) (gather_refusal w node)
-  gathering_answers proposed (Some e) h = record {
+  gathering_answers : (o : Option Refusal) → gather_refusal w node ≡ o
+      → Answers (ByPhase K Gathering w M node) (gather_refusal w node)
+  gathering_answers (Some e) h = record {
     answer = Err e;
     world = w;
     meaning = M;
@@ -174,7 +174,7 @@ module _ (K : Kind) (w : World) (M : Meaning) (sound : Sound M) (node : ℕ) whe
     sound = sound;
     refused = sym h;
   }
-  gathering_answers proposed None h = elim (cases_Bool (conflicted K.conflicts w.book (undelivered row))) [
+  gathering_answers None h = elim (cases_Bool (conflicted K.conflicts w.book (undelivered row))) [
     | inl t ↦
         let a = (any_is (clashes_with K.conflicts w.book (undelivered row)) 64).0 t in
         let b = (any_is (clash K.conflicts w.book (undelivered row) a.0) 64).0 a.2 in
@@ -198,7 +198,7 @@ module _ (K : Kind) (w : World) (M : Meaning) (sound : Sound M) (node : ℕ) whe
 
   -- a closing node that has not proposed proposes, to a chooser with its proposal appended
   proposing_answers : (o : Option Refusal) → propose_refusal quorum node row M ≡ o
-      → Answers (ByPhase K Closing false w M node) (propose_refusal quorum node row M)
+      → Answers (ByPhase K Closing w M node) (propose_refusal quorum node row M)
   proposing_answers (Some e) h = record {
     answer = Err e;
     world = w;
@@ -221,11 +221,10 @@ module _ (K : Kind) (w : World) (M : Meaning) (sound : Sound M) (node : ℕ) whe
       }
 
   -- by the phase
-  phase_answers : (phase : Phase) (proposed : Bool)
-      → Answers (ByPhase K phase proposed w M node) (phase_refusal phase proposed w M node)
-  phase_answers Gathering proposed = gathering_answers proposed (gather_refusal w node) refl
-  phase_answers Closing false = proposing_answers (propose_refusal quorum node row M) refl
-  phase_answers Closing true = record {
+  phase_answers : (phase : Phase) → Answers (ByPhase K phase w M node) (phase_refusal phase w M node)
+  phase_answers Gathering = gathering_answers (gather_refusal w node) refl
+  phase_answers Closing = proposing_answers (propose_refusal quorum node row M) refl
+  phase_answers Waiting = record {
     answer = answer (settle_refusal (decision_for w M node)) Settled;
     world = unless (settle_refusal (decision_for w M node)) (settled_by w node (decided_of (decision_for w M node))) w;
     meaning = M;
@@ -236,7 +235,7 @@ module _ (K : Kind) (w : World) (M : Meaning) (sound : Sound M) (node : ℕ) whe
 
   -- by the cause that turns every step of the node down
   cause_answers : (o : Option Refusal) → Answers (ByCause o K w M node)
-      (first o (phase_refusal row.phase row.proposed w M node))
+      (first o (phase_refusal row.phase w M node))
   cause_answers (Some e) = record {
     answer = Err e;
     world = w;
@@ -245,7 +244,7 @@ module _ (K : Kind) (w : World) (M : Meaning) (sound : Sound M) (node : ℕ) whe
     sound = sound;
     refused = refl;
   }
-  cause_answers None = phase_answers row.phase row.proposed
+  cause_answers None = phase_answers row.phase
 
   -- a step has an answer
   pub step_answers : Answers (Steps K w M node) (step_refusal w M node)

@@ -1,10 +1,10 @@
 -- Every step of a node keeps a world joined to the protocol.
-use Rattle.std.proofs.Common.{◌≡◌, ℕ, ◌≤◌, Bool, true, false, Some, None, Option, Result, sym, refl, subst}
+use Rattle.std.proofs.Common.{◌≡◌, ℕ, ◌≤◌, Some, None, Option, Result, sym, refl, subst}
 use Rattle.record.specs.Kind.{Kind}
 use Rattle.chooser.specs.Meaning.{Meaning, Sound}
 use Rattle.rows.specs.declared.refusal.Refusal.{Refusal}
 use Rattle.rows.specs.declared.row.Phase.{Phase}
-use Rattle.rows.specs.declared.row.Phase.TheVariants.{Gathering, Closing}
+use Rattle.rows.specs.declared.row.Phase.TheVariants.{Gathering, Closing, Waiting}
 use Rattle.rows.specs.declared.size.RingSize.{RingSize}
 use Rattle.ring.specs.World.{World, row_of, table_refusal}
 use Rattle.ring.specs.Step.{ByPhase, ByCause, stepper_refusal, Steps}
@@ -17,20 +17,20 @@ use Rattle.ring.proofs.SettlementJoined.{settling_joined}
 
 module _ {K : Kind} {z : RingSize} {need : ℕ} {low : 1 ≤ need} {high : need ≤ z.q} {w : World} {M : Meaning}
     (j : Joined K z need low high w M) (node : ℕ) (r : Result Step Refusal) (v : World) (N : Meaning) (sound : Sound N) where
-  -- by the phase of the node and whether it has proposed
-  by_phase : Lives z w.ring node → (phase : Phase) (proposed : Bool) → (row_of w node).phase ≡ phase
-      → (row_of w node).proposed ≡ proposed → ByPhase K phase proposed w M node r v N → Joined K z need low high v N
-  by_phase lives Gathering proposed e f h =
+  -- by the phase of the node
+  by_phase : Lives z w.ring node → (phase : Phase) → (row_of w node).phase ≡ phase
+      → ByPhase K phase w M node r v N → Joined K z need low high v N
+  by_phase lives Gathering e h =
       subst (Joined K z need low high v) (sym h.1) (gathers_joined j node lives e r v h.0)
-  by_phase lives Closing false e f h = proposing_joined j node lives e f r v N h sound
-  by_phase lives Closing true e f h = settling_joined j node lives e f r v N h
+  by_phase lives Closing e h = proposing_joined j node lives e r v N h sound
+  by_phase lives Waiting e h = settling_joined j node lives e r v N h
 
   -- by the cause that turns the step down, or none
   by_cause : (cause : Option Refusal) → stepper_refusal w node ≡ cause → ByCause cause K w M node r v N
       → Joined K z need low high v N
   by_cause None e h =
       let lives = living z w.ring node j.fine.size (first_none (table_refusal w) _ e).1 in
-      by_phase lives (row_of w node).phase (row_of w node).proposed refl refl h
+      by_phase lives (row_of w node).phase refl h
   by_cause (Some e) f h =
       subst (λ (q : World). Joined K z need low high q N) (sym h.1) (subst (Joined K z need low high w) (sym h.2) j)
 

@@ -1,10 +1,10 @@
 -- From what a part of a step ensures to what the step ensures.
-use Rattle.std.proofs.Common.{◌≡◌, ℕ, Bool, true, false, Some, None, Err, Option, Result, sym, subst}
+use Rattle.std.proofs.Common.{◌≡◌, ℕ, Some, None, Err, Option, Result, sym, subst}
 use Rattle.record.specs.Kind.{Kind}
 use Rattle.chooser.specs.Meaning.{Meaning}
 use Rattle.rows.specs.declared.refusal.Refusal.{Refusal}
 use Rattle.rows.specs.declared.row.Phase.{Phase}
-use Rattle.rows.specs.declared.row.Phase.TheVariants.{Closing}
+use Rattle.rows.specs.declared.row.Phase.TheVariants.{Closing, Waiting}
 use Rattle.ring.specs.World.{World, row_of}
 use Rattle.ring.specs.Close.{Proposing, Settling}
 use Rattle.ring.specs.Step.{Steps, ByPhase, ByCause, stepper_refusal}
@@ -16,20 +16,19 @@ module _ (K : Kind) (w : World) (M : Meaning) (node : ℕ) (r : Result Step Refu
   step_refused e c answered same-world same-meaning =
       subst (λ (o : Option Refusal). ByCause o K w M node r v N) (sym c) (answered, same-world, same-meaning)
 
-  -- a step of a closing node, by whether it has proposed
-  closing_step : (b : Bool) → stepper_refusal w node ≡ None → (row_of w node).phase ≡ Closing → (row_of w node).proposed ≡ b →
-      ByPhase K Closing b w M node r v N → Steps K w M node r v N
-  closing_step b c p q h =
+  -- a step of a node in this phase
+  in_phase : (phase : Phase) → stepper_refusal w node ≡ None → (row_of w node).phase ≡ phase → ByPhase K phase w M node r v N →
+      Steps K w M node r v N
+  in_phase phase c p h =
       subst (λ (o : Option Refusal). ByCause o K w M node r v N) (sym c)
-      (subst (λ (f : Phase). ByPhase K f (row_of w node).proposed w M node r v N) (sym p)
-      (subst (λ (a : Bool). ByPhase K Closing a w M node r v N) (sym q) h))
+      (subst (λ (f : Phase). ByPhase K f w M node r v N) (sym p) h)
 
-  -- one that has not proposed
-  pub proposing_steps : stepper_refusal w node ≡ None → (row_of w node).phase ≡ Closing → (row_of w node).proposed ≡ false →
-      Proposing w M node r v N → Steps K w M node r v N
-  proposing_steps = closing_step false
+  -- a step of a closing node
+  pub proposing_steps : stepper_refusal w node ≡ None → (row_of w node).phase ≡ Closing → Proposing w M node r v N →
+      Steps K w M node r v N
+  proposing_steps = in_phase Closing
 
-  -- one that has
-  pub settling_steps : stepper_refusal w node ≡ None → (row_of w node).phase ≡ Closing → (row_of w node).proposed ≡ true →
-      Settling w M node r v N → Steps K w M node r v N
-  settling_steps = closing_step true
+  -- one of a node that has proposed
+  pub settling_steps : stepper_refusal w node ≡ None → (row_of w node).phase ≡ Waiting → Settling w M node r v N →
+      Steps K w M node r v N
+  settling_steps = in_phase Waiting

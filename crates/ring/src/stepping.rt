@@ -32,12 +32,10 @@ impl Ring {
     {
         tables.view().check_sizes()?;
         let size = self.with_live_node(node)?;
-        let phase = self.nodes[usize::from(node)].row.phase;
-        let proposed = self.nodes[usize::from(node)].row.proposed;
-        match (phase, proposed) {
-            (Phase::Gathering, _) => self.gather::<R>(size, tables, node),
-            (Phase::Closing, false) => self.propose(size, tables, chooser, node),
-            (Phase::Closing, true) => self.settle(tables, chooser, node),
+        match self.nodes[usize::from(node)].row.phase {
+            Phase::Gathering => self.gather::<R>(size, tables, node),
+            Phase::Closing => self.propose(size, tables, chooser, node),
+            Phase::Waiting => self.settle(tables, chooser, node),
         }
     }
 }

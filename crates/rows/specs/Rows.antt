@@ -3,7 +3,7 @@ use Rattle.std.specs.Prelude.{ℕ, ◌+◌, ◌*◌, List, [], set, replicate, b
 use Rattle.rows.specs.Masks.{minus}
 use Rattle.rows.specs.declared.row.Check.{Check}
 use Rattle.rows.specs.declared.row.Phase.{Phase}
-use Rattle.rows.specs.declared.row.Phase.TheVariants.{Gathering, Proposed}
+use Rattle.rows.specs.declared.row.Phase.TheVariants.{Gathering, Waiting}
 use Rattle.rows.specs.declared.row.Row.{Row}
 
 -- an unused place among the checks
@@ -130,4 +130,4 @@ with_phase phase row = record {
 
 -- having proposed
 abbrev pub with_proposed : Row → Row
-with_proposed row = with_phase Proposed row
+with_proposed row = with_phase Waiting row

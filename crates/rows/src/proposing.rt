@@ -25,7 +25,7 @@ impl Row {
         let nonconflicting = in_most(&self.checks, size.q);
         let conflicting = without(self.undelivered(), nonconflicting);
         chooser.propose(self.stage, node, (nonconflicting, conflicting))?;
-        self.phase = Phase::Proposed;
+        self.phase = Phase::Waiting;
         Ok(())
     }
 }

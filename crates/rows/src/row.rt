@@ -5,12 +5,12 @@ ghost use Rattle.rows.specs.declared.row.Phase.TheVariants.{Closing};
 use crate::mask::without;
 
 // A node gathers messages and acknowledgements until it finds a conflict; then it closes its stage, and once it keeps
-// enough checks it proposes.
+// enough checks it proposes, and waits for the decision.
 #[derive(Clone, Copy, Debug, PartialEq, Eq)]
 pub enum Phase {
     Gathering,
     Closing,
-    Proposed,
+    Waiting,
 }
 
 // A check that a node keeps: who sent it, and what that node had acknowledged when it closed the stage.

@@ -1,7 +1,7 @@
-use Rattle.std.proofs.Common.{◌≡◌, true, false, Err, rules}
+use Rattle.std.proofs.Common.{◌≡◌, ℕ, true, false, Err, rules}
 use Rattle.rows.specs.declared.refusal.Refusal.TheVariants.{TrayFull}
 use Rattle.ring.specs.Receive.{must_relay}
-use Rattle.ring.proofs.Relaying.{relay_not_due, relay_refused, relay_done}
+use Rattle.ring.proofs.Relaying.{relay_not_due, copies, relay_refused, relay_done}
 use Rattle.ring.proofs.ring.Ring.relay.Goals as goal
 
 pub returns-then-not-must_relay : goal.returns-then-not-must_relay
@@ -21,5 +21,7 @@ pub returns : goal.returns
 returns c =
     let due : must_relay c.args.self.now c.args.letter ≡ true = search rules in
     let room = c.in_ok-send.ensures.letters in
+    let n : ℕ = c.args.size.n in
+    let copied : c.send.new.tray ≡ copies c.args.self.now c.args.tray.now c.args.letter n = search rules in
     relay_done c.args.self.now c.args.tray.now c.args.letter c.args.size c.requires.started due _ _
-    c.in_ok-send.ensures.sent room.1 room.0
+    c.in_ok-send.ensures.sent copied room.0
