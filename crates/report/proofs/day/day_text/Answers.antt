@@ -1,11 +1,8 @@
 use Rattle.std.proofs.Common.{◌≡◌, ℕ, ◌<◌, List, replicate, None, string_bytes, sym, subst, rules}
 use Rattle.std.proofs.lemmas.Result.{IfOk-weaker}
 use Rattle.chooser.specs.Meaning.{Meaning}
-use Rattle.rows.specs.Conflicts.{no_command}
-use Rattle.rows.specs.Letters.{no_letter}
 use Rattle.ring.specs.World.{World, world, world_in, world_of}
 use Rattle.ring.specs.Show.{show_refusal}
-use Rattle.ring.specs.declared.ring.Ring.{Ring}
 use Rattle.replay.specs.WholeDay.{Days}
 use Rattle.report.specs.Reports.{outset, day_text}
 use Rattle.report.proofs.EveryNodeShown.{every_node_shown}
@@ -28,9 +25,10 @@ returns-in-Ok g c =
     let M : Meaning = g.C.Chooser.meaning c.args.chooser.now in
     let N : Meaning = g.C.Chooser.meaning c.run_day.new.chooser in
     let bytes : List ℕ = c.args.reader.bytes.now in
-    let day = subst (λ (r : Ring). Days g.R.Record.kind c.args.size bytes c.args.reader.place
-    (world r (replicate 1024 no_letter) (replicate 64 no_command) (replicate 448 0)) M c.run_day.result left N)
-    c.new-ring.ensures c.run_day.ensures.days in
+    let begun : world c.new-ring.result (replicate 1024 c.default-tray.result) (replicate 64 c.default-book.result)
+    (replicate 448 0) ≡ outset = search rules in
+    let day = subst (λ (w : World). Days g.R.Record.kind c.args.size bytes c.args.reader.place w M c.run_day.result left N)
+    begun c.run_day.ensures.days in
     let seen = subst (λ (w : World). Days g.R.Record.kind c.args.size bytes c.args.reader.place outset M c.run_day.result w N)
     (sym same) day in
     IfOk-weaker c.day_lines.result _ _ (λ s h.
