@@ -12,7 +12,8 @@ placing_facts : PlacingFacts
 placing_facts = record { either_first = placed_ahead; past = placed_take; ordered = order_placed; ranged = range_placed }
 
 -- the rounds after a posting are again in play
-pub posted_in_play : (r : Round) (xs ys : List Round) → in_range r ≡ true → is_card xs ≡ true → ys ≡ posted r xs → is_card ys ≡ true
+pub posted_in_play : (r : Round) (xs ys : List Round) → in_range r ≡ true → is_card xs ≡ true → ys ≡ posted r xs →
+    is_card ys ≡ true
 posted_in_play r xs ys a e p = ap is_card p ∙ posted_card placing_facts r xs a e
 
 -- with fewer than twenty rounds there is room for the last

@@ -81,7 +81,8 @@ range_take (suc n) (x ∷ xs) e =
     let k = and_parts (in_range x) (all_in_range xs) e in
     and_from (in_range x) (all_in_range (take n xs)) k.0 (range_take n xs k.1)
 
-pub posted_card : PlacingFacts → (r : Round) (xs : List Round) → in_range r ≡ true → is_card xs ≡ true → is_card (posted r xs) ≡ true
+pub posted_card : PlacingFacts → (r : Round) (xs : List Round) → in_range r ≡ true → is_card xs ≡ true →
+    is_card (posted r xs) ≡ true
 posted_card f r xs a e =
     let k = card_parts xs e in
     card_from (posted r xs) (simp length-take (omega arith)) (order_take 20 (placed r xs) (f.ordered r xs k.1))
