@@ -15,6 +15,7 @@ const CLOSE: u8 = 255;
 // Closing book: a record that takes no commands while it is closed.
 #[derive(Drop)]
 pub struct ClosingBook<B> {
+    // Stays a bool: a closed book keeps the record below, and the state is told as 0 or 1, which a bool becomes by From.
     closed: bool,
     below: B,
 }

@@ -15,7 +15,7 @@ pub struct Round {
 }
 
 // A player's kept rounds, which are the first `count`: later days first, and lower amounts first within a day.
-// Stays an array with a count: a record never allocates, `new` cannot fail, and a card is copied, eight times into a table.
+// Stays an array with a count: a Vec allocates, and an ArrayVec is not Copy, as a card is, and is one more crate to trust.
 #[derive(Clone, Copy)]
 pub struct Card {
     count: usize,
