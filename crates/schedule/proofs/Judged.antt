@@ -1,6 +1,7 @@
 -- What a number is read as.
-use Rattle.std.proofs.Common.{◌≡◌, ℕ, ◌+◌, ◌<◌, ◌≤◌, true, false, not, leb, List, drop, is_some, Some, None, Ok, Err, Option}
-use Rattle.std.proofs.Common.{refl, ap, ⊎_elim, arith}
+use Rattle.std.proofs.Common.{◌≡◌, ℕ, ◌+◌, ◌-◌, ◌<◌, ◌≤◌, true, false, not, leb, List, length, take, drop, is_some, Some, None, Ok, Err, Option}
+use Rattle.std.proofs.Common.{sym, refl, ap, ◌∙◌, ⊎_elim, arith}
+use Rattle.std.proofs.lemmas.List.{take_rest}
 use Rattle.std.proofs.lemmas.Bool.{lt-leb, leb-true, cond-true, cond-false, cases_Bool, and_left, and_right}
 use Rattle.std.proofs.lemmas.Bool.{and_parts, not-true, not_from_true}
 use Rattle.schedule.specs.declared.fault.NumberFault.TheVariants.{CutShort, Unfit}
@@ -12,6 +13,12 @@ pub number_judged : (limit : ℕ) (bytes : List ℕ) (p : ℕ) →
     number_at limit bytes p ≡ judged limit p (drop p bytes) (front (drop p bytes))
 unfolding number_at
 number_judged limit bytes p = refl
+
+-- the same of the rest of the bytes, as code takes it
+pub number_rest : (limit : ℕ) (bytes : List ℕ) (p : ℕ) → let rest = take (length bytes - p) (drop p bytes) in
+    number_at limit bytes p ≡ judged limit p rest (front rest)
+number_rest limit bytes p =
+    number_judged limit bytes p ∙ ap (λ ys. judged limit p ys (front ys)) (sym (take_rest bytes p))
 
 module _ (limit p : ℕ) (bs : List ℕ) where
   -- a number that does not end is cut short

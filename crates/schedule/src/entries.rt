@@ -6,7 +6,7 @@ use crate::fault::EntryFault;
 use crate::reader::Reader;
 
 // The entries that a reader has ahead, each read when it is asked for; they end with the bytes, or with a fault.
-#[derive(Clone, Copy)]
+#[derive(Drop)]
 pub struct Entries<'a> {
     reader: Reader<'a>,
 }

@@ -1,8 +1,9 @@
 -- Numbers written one after the other.
-use Rattle.std.proofs.Common.{◌≡◌, ℕ, ◌+◌, ◌-◌, ◌<◌, ◌≤◌, List, [], ◌∷◌, ◌++◌, length, get_or, take, drop, sym, refl, ap, ◌∙◌}
+use Rattle.std.proofs.Common.{◌≡◌, ℕ, ◌+◌, ◌-◌, ◌<◌, ◌≤◌, List, [], ◌++◌, length, get_or, take, drop, sym, ap, ◌∙◌}
 use Rattle.std.proofs.Common.{arith}
-use Rattle.std.proofs.lemmas.List.{take-append-drop, take_more, flat_map_more, length-append, append_assoc, take_at, drop_at}
+use Rattle.std.proofs.lemmas.List.{take_more, flat_map_more, length-append, append_assoc, take_at, drop_at}
 use Rattle.std.proofs.lemmas.List.{append-nil, drop-drop, drop_all, length-drop, take_rest}
+use Rattle.std.proofs.lemmas.List.Folds.{length-flat_map-take}
 use borrow.Rule.Slice.PartMut.{put_mid}
 use Rattle.schedule.specs.Numbers.{spell}
 use Rattle.schedule.specs.Drafts.{spelled}
@@ -17,24 +18,11 @@ pub length_more : (xs : List ℕ) (i : ℕ) → i < length xs →
     length (spelled (take (i + 1) xs)) ≡ length (spelled (take i xs)) + length (spell (get_or xs i 0))
 length_more xs i h = ap length (spelled_more xs i h) ∙ length-append (spelled (take i xs)) (spell (get_or xs i 0))
 
--- the bytes of two lists of numbers
-spelled_append : (xs ys : List ℕ) → spelled (xs ++ ys) ≡ spelled xs ++ spelled ys
-spelled_append [] ys = refl
-spelled_append (x ∷ xs) ys =
-    ap (λ l. spell x ++ l) (spelled_append xs ys) ∙ sym (append_assoc (spell x) (spelled xs) (spelled ys))
-
--- a front of the numbers and what follows it take as much as all
-length_part : (xs : List ℕ) (i : ℕ) →
-    length (spelled (take i xs)) + length (spelled (drop i xs)) ≡ length (spelled xs)
-length_part xs i =
-    sym (length-append (spelled (take i xs)) (spelled (drop i xs)))
-    ∙ ap length (sym (spelled_append (take i xs) (drop i xs)) ∙ ap spelled (take-append-drop i xs))
-
 -- where all the numbers have room, the next one has
 pub room : (ns out : List ℕ) (i at : ℕ) → i < length ns → at ≡ length (spelled (take i ns)) →
     length (spelled ns) ≤ length out → length (spell (get_or ns i 0)) ≤ length (take (length out - at) (drop at out))
 room ns out i at h e k =
-    omega (arith, length_more ns i h, length_part ns (i + 1), length-drop at out, ap length (take_rest out at))
+    omega (arith, length-flat_map-take spell ns i 0 h, length-drop at out, ap length (take_rest out at))
 
 -- with one number more at the front of what is left, what lies past the numbers is still as it was
 pub one_more : (ns was out part : List ℕ) (i at : ℕ) → i < length ns → at ≡ length (spelled (take i ns)) →
