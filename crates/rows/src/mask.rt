@@ -4,6 +4,8 @@ ghost use Rattle.rows.specs.Masks.{has, minus, within, members, put, those};
 // How many messages a mask has room for.
 pub(crate) const MOST_MESSAGES: u8 = 64;
 
+// Stays functions on u64: the masks in rows and letters are public numbers, and a type of sets would only wrap them.
+
 // Whether the set has i.
 pub(crate) fn has_bit(set: u64, i: u8) -> bool
     ensures { result ≡ has set i }
@@ -51,9 +53,11 @@ fn append(sheets: &mut [u8], place: usize, set: u64)
 }
 
 // Writes the members of the set on the sheet that begins at place 64 `at`, behind the messages that it has.
+// Stays two parameters, all sheets and which of them: both are handed in by the caller, and no other function uses them.
 pub(crate) fn extend_sheet(sheets: &mut [u8], at: u8, written: u64, set: u64)
     ensures { sheets.new ≡ put sheets.old (64 * at + count_ones written) (members set 64) }
 {
+    // Stays a cast: usize has no From of u32.
     let place = usize::from(MOST_MESSAGES) * usize::from(at) + written.count_ones() as usize;
     append(sheets, place, set);
 }

@@ -66,6 +66,7 @@ impl From<ChooserRefusal> for Refusal {
 
 impl Refusal {
     // The number that this refusal goes by.
+    // Stays a match: one of the refusals carries another, so no cast gives the number.
     pub fn number(self) -> u8
         ensures { result ≡ number_of self }
     {
