@@ -29,11 +29,10 @@ pub fn run<R: Record, C: Chooser>(
         (world_of ring.new tables.new)
         (C.Chooser.meaning chooser.new) }
 {
-    let mut ahead = reader;
     let mut accepted: usize = 0;
     let mut refused: usize = 0;
-    while !ahead.is_done() {
-        match ahead.entry() {
+    for read in reader.entries() {
+        match read {
             Ok(entry) => {
                 if perform::<R, C>(ring, tables, chooser, entry) {
                     accepted += 1;

@@ -5,7 +5,7 @@ use Rattle.rows.specs.Refusals as refusals
 use Rattle.rows.specs.declared.refusal.Refusal.{Refusal}
 use Rattle.ring.specs.World.{World, row_of, has_crashed}
 use Rattle.ring.specs.Show.{sheet_of}
-use Rattle.schedule.specs.Reports.{number_of, place_of}
+use Rattle.schedule.specs.Texts as texts
 use Rattle.schedule.specs.declared.fault.EntryFault.{EntryFault}
 
 -- for an input of more than 4,096 bytes
@@ -18,7 +18,7 @@ start_text e = codes "start " ++ (decimal (refusals.number_of e) ++ codes "\n")
 
 -- for a fault of the input
 abbrev pub fault_text : EntryFault → List ℕ
-fault_text f = codes "fault " ++ (decimal (number_of f) ++ (codes " at " ++ (decimal (place_of f) ++ codes "\n")))
+fault_text f = texts.fault_text f ++ codes "\n"
 
 -- how many entries were accepted, and how many refused
 abbrev pub counts_text : ℕ → ℕ → List ℕ

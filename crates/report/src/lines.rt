@@ -24,9 +24,7 @@ pub fn start_line(heap: Global, refusal: Refusal) -> Result<String, AllocError>
 pub fn fault_line(heap: Global, fault: EntryFault) -> Result<String, AllocError>
     ensures { IfOk result (λ s. string_bytes s ≡ fault_text fault) }
 {
-    let number = fault.number();
-    let place = fault.place();
-    format!(in heap; "fault {number} at {place}\n")
+    format!(in heap; "{fault}\n")
 }
 
 // The line of the counts.
