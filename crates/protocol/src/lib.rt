@@ -7,29 +7,21 @@ ghost use Rattle.protocol.specs.Promises.{RunsAreSound};
 ghost use Rattle.protocol.specs.Witnesses.{ARunDeliversEarly, ARunSettles, ARunHasTwoOrders};
 
 // Whatever calls a run makes from the start on, it comes to a state that keeps every promise.
-pub fn runs_are_sound() -> u8
+pub fn runs_are_sound()
     ensures { RunsAreSound }
-{
-    0
-}
+{}
 
 // There is a run in which a node delivers a message ahead of any decision.
-pub fn a_run_delivers_early() -> u8
+pub fn a_run_delivers_early()
     ensures { ARunDeliversEarly }
-{
-    0
-}
+{}
 
 // There is a run in which a node closes a stage over two conflicting messages and settles it by a decision.
-pub fn a_run_settles() -> u8
+pub fn a_run_settles()
     ensures { ARunSettles }
-{
-    0
-}
+{}
 
 // There is a run in which two nodes deliver two messages that do not conflict in different orders.
-pub fn a_run_has_two_orders() -> u8
+pub fn a_run_has_two_orders()
     ensures { ARunHasTwoOrders }
-{
-    0
-}
+{}

@@ -1,23 +1,17 @@
 ghost use Rattle.ring.specs.Witnesses.{ADayDeliversEarly, ADaySettles, ADayComesToRest};
 
 // There is a day on which a node delivers a message ahead of any decision.
-pub fn a_day_delivers_early() -> u8
+pub fn a_day_delivers_early()
     ensures { ADayDeliversEarly }
-{
-    0
-}
+{}
 
 // There is a day on which a node closes a stage over two conflicting messages and settles it by the chooser's decision.
-pub fn a_day_settles() -> u8
+pub fn a_day_settles()
     ensures { ADaySettles }
-{
-    0
-}
+{}
 
 // There is a day that comes to rest: a message is delivered, and then every receipt and every step would be refused,
 // none for a full tray.
-pub fn a_day_comes_to_rest() -> u8
+pub fn a_day_comes_to_rest()
     ensures { ADayComesToRest }
-{
-    0
-}
+{}
