@@ -9,6 +9,7 @@ use ring::tables::TablesMut;
 use schedule::entry::Entry;
 
 // Gives one entry to the ring, and tells whether the ring accepted it.
+// Stays a bool by a match: a run counts the two answers and asks no more, and each entry is a call of its own.
 pub fn perform<R: Record, C: Chooser>(
     ring: &mut Ring,
     tables: &mut TablesMut<'_>,

@@ -20,6 +20,8 @@ use std::alloc::{AllocError, Global};
 // The most bytes that a day may have.
 const MOST_BYTES: usize = 4096;
 
+// Stays three functions with a match each, of which each hands on what it has not used: every arm is another type.
+
 // The text of a day with this chooser, by its kind of record.
 fn with_chooser<C: Chooser>(
     heap: Global,

@@ -12,6 +12,9 @@ use rows::refusal::Refusal;
 use rows::size::RingSize;
 
 impl Ring {
+    // Stays in three contracts that the ring has this size: it ties a value to the ring, which a start changes in place,
+    // so that no type of started rings could say it.
+
     // The step of a gathering node: it acknowledges all that it has not delivered, or, where two messages of that
     // conflict, sends its check and closes the stage. Refused: 17 it has acknowledged all of it; 12 fewer free places
     // than nodes.

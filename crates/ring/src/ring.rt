@@ -8,6 +8,7 @@ use rows::size::RingSize;
 #[derive(Clone, Copy)]
 pub(crate) struct Node {
     pub(crate) row: Row,
+    // Stays a bool: no value stands beside it, and it is asked of one node at a time.
     pub(crate) crashed: bool,
 }
 
@@ -19,7 +20,7 @@ pub struct Ring {
     pub(crate) size: Option<RingSize>,
     // how many messages were broadcast; they are numbered in order of broadcast
     pub(crate) messages: u8,
-    // who broadcast each of them
+    // who broadcast each of them; stays apart from the book, and `used` from the tray: both are lent and may hold anything
     pub(crate) broadcasters: [u8; 64],
     // how many places of the tray are used
     pub(crate) used: usize,

@@ -14,6 +14,7 @@ fn used_part<'a>(row: &Row, sheets: &'a [u8], node: u8) -> &'a [u8]
     ensures { result.now ≡ take (count_ones (on_sheet row.now)) (drop (64 * node) sheets.now) }
 {
     let base = 64 * usize::from(node);
+    // Stays a cast: usize has no From of u32.
     let len = (row.delivered | row.early).count_ones() as usize;
     &sheets[base..base + len]
 }

@@ -32,6 +32,7 @@ impl Ring {
     {
         tables.view().check_sizes()?;
         let size = self.with_live_node(node)?;
+        // Stays a match: the phase is data, and each of the three steps takes other parameters.
         match self.nodes[usize::from(node)].row.phase {
             Phase::Gathering => self.gather::<R>(size, tables, node),
             Phase::Closing => self.propose(size, tables, chooser, node),

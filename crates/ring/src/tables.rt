@@ -20,7 +20,8 @@ pub struct Tables<'a> {
     pub sheets: &'a [u8],
 }
 
-// The same tables, lent to be written.
+// The same tables, lent to be written. Stays a struct of its own, since who can only read has no `&mut` to lend. That
+// the very slices come back stays in each contract: of a struct of `&mut` a caller knows it only from there.
 #[derive(Drop)]
 pub struct TablesMut<'a> {
     pub tray: &'a mut [Letter],
