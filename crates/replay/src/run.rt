@@ -11,6 +11,7 @@ use ring::tables::TablesMut;
 use schedule::reader::Reader;
 
 // Gives the entries that the reader has ahead to the ring in order, to the end of the bytes or to a fault.
+// Stays with ring, tables and chooser apart: a struct of them would hold five `&mut`, each to be given back by contract.
 pub fn run<R: Record, C: Chooser>(
     reader: Reader<'_>,
     ring: &mut Ring,
