@@ -1,3 +1,5 @@
+ghost use Rattle.std.specs.Prelude.{◌≡◌};
+
 use chooser::chooser::Chooser;
 use chooser::first_come::FirstCome;
 use record::command::Command;
@@ -58,7 +60,11 @@ pub(crate) fn lend<'a>(
     tray: &'a mut [Letter],
     book: &'a mut [Command],
     sheets: &'a mut [u8],
-) -> TablesMut<'a> {
+) -> TablesMut<'a>
+    ensures tray { result.tray ≡ tray.entry }
+    ensures book { result.book ≡ book.entry }
+    ensures sheets { result.sheets ≡ sheets.entry }
+{
     TablesMut { tray, book, sheets }
 }
 
