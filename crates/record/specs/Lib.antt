@@ -12,6 +12,7 @@ pub mod PairSide
 pub mod Posting
 pub mod Rounds
 pub mod RoundsOrder
+pub mod RecordKind
 pub mod Table
 pub mod ClosingBookLaws
 pub mod KittyLaws

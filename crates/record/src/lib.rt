@@ -6,4 +6,5 @@ pub mod command;
 pub mod kitty;
 pub mod pair;
 pub mod record;
+pub mod record_kind;
 pub mod rounds;

@@ -2,13 +2,14 @@
 use Rattle.std.proofs.Common.{◌≡◌, ℕ, List, Ok, Option, sym, subst}
 use Rattle.chooser.specs.Meaning.{Meaning}
 use Rattle.chooser.specs.Ruled.{Fresh}
+use Rattle.record.specs.RecordKind.{kind_of}
 use Rattle.rows.specs.Size.{Sized, size_refusal}
 use Rattle.rows.specs.declared.refusal.Refusal.{Refusal}
 use Rattle.rows.specs.declared.size.RingSize.{RingSize}
 use Rattle.schedule.specs.declared.header.ChooserKind.{ChooserKind}
 use Rattle.schedule.specs.declared.header.ChooserKind.TheVariants.{FirstCome, LowestOf}
 use Rattle.schedule.specs.declared.header.Header.{Header}
-use Rattle.report.specs.Reports.{kind_of, need_of, Printed, BySize}
+use Rattle.report.specs.Reports.{need_of, Printed, BySize}
 
 module _ (h : Header) (z : RingSize) (sized : Sized h.n h.q (Ok z)) (M : Meaning) (bytes : List ℕ) (p : ℕ) (s : List ℕ)
     (printed : Printed (kind_of h.«record») z bytes p M s) where

@@ -2,10 +2,7 @@
 use Rattle.std.specs.Prelude.{◌≡◌, ℕ, Bool, true, false, List, ◌++◌, length, replicate, Some, None, Ok, Err, Option, Result}
 use Rattle.std.specs.Prelude.{nat_lt}
 use Rattle.record.specs.Kind.{Kind}
-use Rattle.record.specs.Kitty.{kitty_kind}
-use Rattle.record.specs.Rounds.{rounds_kind}
-use Rattle.record.specs.Pair.{pair_kind}
-use Rattle.record.specs.ClosingBook.{closing_kind}
+use Rattle.record.specs.RecordKind.{kind_of}
 use Rattle.chooser.specs.Meaning.{Meaning}
 use Rattle.chooser.specs.Ruled.{Fresh}
 use Rattle.rows.specs.Conflicts.{no_command}
@@ -20,8 +17,6 @@ use Rattle.schedule.specs.declared.fault.EntryFault.{EntryFault}
 use Rattle.schedule.specs.declared.header.ChooserKind.{ChooserKind}
 use Rattle.schedule.specs.declared.header.ChooserKind.TheVariants.{FirstCome, LowestOf}
 use Rattle.schedule.specs.declared.header.Header.{Header}
-use Rattle.schedule.specs.declared.header.RecordKind.{RecordKind}
-use Rattle.schedule.specs.declared.header.RecordKind.TheVariants.{Kitty, Rounds, Both}
 use Rattle.replay.specs.WholeDay.{Days}
 use Rattle.replay.specs.declared.tally.Tally.{Tally}
 use Rattle.report.specs.Lines.{long_text, start_text, fault_text, nodes_text, counts_text, ended}
@@ -46,12 +41,6 @@ pub record Printed (K : Kind) (z : RingSize) (bytes : List ℕ) (p : ℕ) (M : M
   pub told : s ≡ day_text answer z left
 
 -- ---- by the header
-
--- the kind of record that it names
-abbrev pub kind_of : RecordKind → Kind
-kind_of Kitty = kitty_kind
-kind_of Rounds = rounds_kind
-kind_of Both = pair_kind kitty_kind (closing_kind rounds_kind)
 
 -- the need of the chooser that it names
 abbrev pub need_of : ChooserKind → ℕ → ℕ

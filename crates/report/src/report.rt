@@ -1,6 +1,7 @@
 ghost use Rattle.std.specs.Prelude.{IfOk, Ok, string_bytes};
+ghost use Rattle.record.specs.RecordKind.{kind_of};
 ghost use Rattle.rows.specs.Size.{Sized, size_refusal};
-ghost use Rattle.report.specs.Reports.{kind_of, Printed, BySize, Reported};
+ghost use Rattle.report.specs.Reports.{Printed, BySize, Reported};
 
 use crate::day::day_text;
 use crate::lines::{fault_line, long_line, start_line};

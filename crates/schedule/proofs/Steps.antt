@@ -2,11 +2,12 @@
 use Rattle.std.proofs.Common.{◌≡◌, ℕ, Bool, true, false, cond, eqb, ◌⊎◌, List, Ok, Err, Result, refl, inl, inr, ⊎_elim, arith}
 use Rattle.std.proofs.Common.{◌∙◌, ap}
 use Rattle.std.proofs.lemmas.Bool.{eqb-true}
-use Rattle.schedule.specs.declared.kind.NoSuchKind.{NoSuchKind}
+use Rattle.record.specs.RecordKind.{no_kind}
+use Rattle.record.specs.declared.record_kind.NoSuchKind.{NoSuchKind}
 use Rattle.schedule.specs.declared.kind.EntryKind.{EntryKind}
 use Rattle.schedule.specs.declared.fault.EntryFault.TheVariants.{InNumber}
 use Rattle.schedule.specs.Numbers.{number_at}
-use Rattle.schedule.specs.Kinds.{entry_kind, number_of_kind, known, kind_at, no_kind}
+use Rattle.schedule.specs.Kinds.{entry_kind, number_of_kind, known, kind_at}
 use Rattle.schedule.specs.Chains.{through}
 
 -- both readings of a chain succeeded

@@ -1,12 +1,13 @@
 -- The header of a day.
 use Rattle.std.specs.Prelude.{ℕ, List, Ok, Result}
+use Rattle.record.specs.RecordKind.{record_kind}
+use Rattle.record.specs.declared.record_kind.RecordKind.{RecordKind}
 use Rattle.schedule.specs.declared.header.ChooserKind.{ChooserKind}
-use Rattle.schedule.specs.declared.header.RecordKind.{RecordKind}
 use Rattle.schedule.specs.declared.header.Header.{Header}
 use Rattle.schedule.specs.declared.fault.EntryFault.{EntryFault}
 use Rattle.schedule.specs.declared.fault.EntryFault.TheVariants.{InNumber}
 use Rattle.schedule.specs.Numbers.{number_at}
-use Rattle.schedule.specs.Kinds.{kind_at, chooser_kind, record_kind}
+use Rattle.schedule.specs.Kinds.{kind_at, chooser_kind}
 use Rattle.schedule.specs.Chains.{through, and_then}
 
 -- the kind of chooser at p, with the place after it

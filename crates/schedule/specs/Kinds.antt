@@ -1,20 +1,15 @@
--- The kinds of entries, choosers and records, and the numbers that they go by.
+-- The kinds of entries and choosers, and the numbers that they go by.
 use Rattle.std.specs.Prelude.{ℕ, cond, List, Ok, Err, Result, ◌==◌}
-use Rattle.schedule.specs.declared.kind.NoSuchKind.{NoSuchKind}
+use Rattle.record.specs.RecordKind.{no_kind}
+use Rattle.record.specs.declared.record_kind.NoSuchKind.{NoSuchKind}
 use Rattle.schedule.specs.declared.kind.EntryKind.{EntryKind}
 use Rattle.schedule.specs.declared.kind.EntryKind.TheVariants.{Broadcast, Receive, Step, Crash, Lose}
 use Rattle.schedule.specs.declared.header.ChooserKind.{ChooserKind}
 use Rattle.schedule.specs.declared.header.ChooserKind.TheVariants.{FirstCome, LowestOf}
-use Rattle.schedule.specs.declared.header.RecordKind.{RecordKind}
-use Rattle.schedule.specs.declared.header.RecordKind.TheVariants.{Kitty, Rounds, Both}
 use Rattle.schedule.specs.declared.fault.EntryFault.{EntryFault}
 use Rattle.schedule.specs.declared.fault.EntryFault.TheVariants.{InNumber, UnknownKind}
 use Rattle.schedule.specs.Numbers.{number_at}
 use Rattle.schedule.specs.Chains.{through}
-
--- no kind goes by this number
-abbrev pub no_kind : ℕ → NoSuchKind
-no_kind n = record { 0 = n }
 
 -- the kind of entry that goes by a number
 abbrev pub entry_kind : ℕ → Result EntryKind NoSuchKind
@@ -38,13 +33,6 @@ abbrev pub chooser_kind : ℕ → Result ChooserKind NoSuchKind
 chooser_kind n =
     cond (n == 1) (Ok FirstCome)
     (cond (n == 2) (Ok LowestOf) (Err (no_kind n)))
-
--- the kind of record that goes by a number
-abbrev pub record_kind : ℕ → Result RecordKind NoSuchKind
-record_kind n =
-    cond (n == 1) (Ok Kitty)
-    (cond (n == 2) (Ok Rounds)
-    (cond (n == 3) (Ok Both) (Err (no_kind n))))
 
 -- a kind, if there is one, whose number stands at p, with the place q after it
 abbrev pub known : {K : Type 0} → ℕ → ℕ → Result K NoSuchKind → Result (K × ℕ) EntryFault

@@ -1,21 +1,17 @@
 ghost use Rattle.std.specs.Prelude.{◌≡◌};
-ghost use Rattle.schedule.specs.Kinds.{chooser_kind, record_kind};
+ghost use Rattle.record.specs.RecordKind.{record_kind};
+ghost use Rattle.schedule.specs.Kinds.{chooser_kind};
 
 use crate::kind::{Kind, NoSuchKind};
+
+// The kinds of record that a day may name.
+pub use record::record_kind::RecordKind;
 
 // The kinds of chooser that a day may name.
 #[derive(Clone, Copy, Debug, PartialEq)]
 pub enum ChooserKind {
     FirstCome,
     LowestOf,
-}
-
-// The kinds of record that a day may name.
-#[derive(Clone, Copy, Debug, PartialEq)]
-pub enum RecordKind {
-    Kitty,
-    Rounds,
-    Both,
 }
 
 // What stands before the entries of a day: nodes, quorum, and what they choose and record by.
@@ -45,21 +41,6 @@ impl Kind for ChooserKind {
     ghost tried = { chooser_kind };
 
     ghost tries = { λ _ _ e. e };
-}
-
-impl TryFrom<u16> for RecordKind {
-    type Error = NoSuchKind;
-
-    ghost try_from_gives = { λ number r. r ≡ record_kind number };
-
-    fn try_from(number: u16) -> Result<RecordKind, NoSuchKind> {
-        match number {
-            1 => Ok(RecordKind::Kitty),
-            2 => Ok(RecordKind::Rounds),
-            3 => Ok(RecordKind::Both),
-            _ => Err(NoSuchKind(number)),
-        }
-    }
 }
 
 impl Kind for RecordKind {

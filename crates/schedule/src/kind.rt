@@ -1,10 +1,9 @@
 ghost use Rattle.std.specs.Prelude.{◌≡◌, ℕ, Result};
-ghost use Rattle.schedule.specs.declared.kind.NoSuchKind.{NoSuchKind};
+ghost use Rattle.record.specs.declared.record_kind.NoSuchKind.{NoSuchKind};
 ghost use Rattle.schedule.specs.Kinds.{entry_kind, number_of_kind};
 
 // A number that no kind goes by.
-#[derive(Clone, Copy, Debug, PartialEq)]
-pub struct NoSuchKind(pub u16);
+pub use record::record_kind::NoSuchKind;
 
 // What goes by a number: one function says which number is which.
 pub trait Kind: TryFrom<u16, Error = NoSuchKind> {

@@ -1,8 +1,9 @@
 -- Lines as commands and as choices.
-use Rattle.std.specs.Prelude.{ℕ, cond, List, [], ◌∷◌, Some, None, Option, ◌==◌}
+use Rattle.std.specs.Prelude.{ℕ, List, [], ◌∷◌, Some, None, Option}
+use Rattle.std.specs.Result.{result_ok}
 use Rattle.record.specs.declared.command.Command.{Command}
-use Rattle.transcript.specs.declared.choice.Choice.{Choice}
-use Rattle.transcript.specs.declared.choice.Choice.TheVariants.{Kitty, Rounds, Both}
+use Rattle.record.specs.RecordKind.{record_kind}
+use Rattle.record.specs.declared.record_kind.RecordKind.{RecordKind}
 use Rattle.transcript.specs.Chains.{and_then}
 use Rattle.transcript.specs.Numbers.{natural, integer}
 use Rattle.transcript.specs.Words.{words_of}
@@ -28,16 +29,15 @@ abbrev pub command_of : List ℕ → Option Command
 command_of line = command_in (words_of line)
 
 -- the choice of a number
-abbrev pub choice_numbered : ℕ → Option Choice
-choice_numbered n =
-    cond (n == 1) (Some Kitty) (cond (n == 2) (Some Rounds) (cond (n == 3) (Some Both) None))
+abbrev pub choice_numbered : ℕ → Option RecordKind
+choice_numbered n = result_ok (record_kind n)
 
 -- the choice of exactly one word
-abbrev pub choice_in : List (List ℕ) → Option Choice
+abbrev pub choice_in : List (List ℕ) → Option RecordKind
 choice_in [] = None
 choice_in (w ∷ []) = and_then (natural 255 w) choice_numbered
 choice_in (w ∷ (x ∷ xs)) = None
 
 -- the choice that a line gives
-abbrev pub choice_of : List ℕ → Option Choice
+abbrev pub choice_of : List ℕ → Option RecordKind
 choice_of line = choice_in (words_of line)

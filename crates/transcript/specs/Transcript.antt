@@ -1,25 +1,16 @@
 -- Everything that is printed for an input.
 use Rattle.std.specs.Prelude.{ℕ, List, [], ◌∷◌, ◌++◌, Some, None, codes, Option}
-use Rattle.record.specs.ClosingBook.{closing_kind}
-use Rattle.record.specs.Kind.{Taking, Kind}
-use Rattle.record.specs.Kitty.{kitty_kind}
-use Rattle.record.specs.Pair.{pair_kind}
-use Rattle.record.specs.Rounds.{rounds_kind}
+use Rattle.record.specs.Kind.{Taking}
+use Rattle.record.specs.RecordKind.{kind_of}
+use Rattle.record.specs.declared.record_kind.RecordKind.{RecordKind}
+use Rattle.record.specs.declared.record_kind.RecordKind.TheVariants.{Kitty, Rounds, Both}
 use Rattle.transcript.specs.CommandLine.{choice_of}
 use Rattle.transcript.specs.Lines.{lines_of}
 use Rattle.transcript.specs.Playing.{answers_text, list_after}
 use Rattle.transcript.specs.Telling.{balance_text, rounds_text, both_text}
-use Rattle.transcript.specs.declared.choice.Choice.{Choice}
-use Rattle.transcript.specs.declared.choice.Choice.TheVariants.{Kitty, Rounds, Both}
-
--- the kind of record that is played
-abbrev pub kind_of : Choice → Kind
-kind_of Kitty = kitty_kind
-kind_of Rounds = rounds_kind
-kind_of Both = pair_kind kitty_kind (closing_kind rounds_kind)
 
 -- what is printed of the list that it tells
-abbrev pub list_text : Choice → List ℕ → List ℕ
+abbrev pub list_text : RecordKind → List ℕ → List ℕ
 list_text Kitty list = balance_text list
 list_text Rounds list = rounds_text list
 list_text Both list = both_text list
@@ -29,11 +20,11 @@ abbrev pub text_after : Taking → (List ℕ → List ℕ) → List (List ℕ) �
 text_after T shown lines = answers_text T 2 lines ++ shown (list_after T T.first lines)
 
 -- the same of the record of a choice
-abbrev pub played_text : Choice → List (List ℕ) → List ℕ
+abbrev pub played_text : RecordKind → List (List ℕ) → List ℕ
 played_text choice lines = text_after (kind_of choice).taking (list_text choice) lines
 
 -- what is printed if the first line names this choice
-abbrev pub text_by_choice : Option Choice → List (List ℕ) → List ℕ
+abbrev pub text_by_choice : Option RecordKind → List (List ℕ) → List ℕ
 text_by_choice None lines = codes "line 1: no kind of record\n"
 text_by_choice (Some choice) lines = played_text choice lines
 

@@ -1,10 +1,10 @@
 ghost use Rattle.std.specs.Prelude.{◌≡◌};
 ghost use Rattle.transcript.specs.CommandLine.{command_from, command_of, choice_of};
 
-use crate::choice::Choice;
 use crate::numbers::{integer, natural};
 use crate::words::Words;
 use record::command::Command;
+use record::record_kind::RecordKind;
 
 // The command of four words, if each writes a number that fits.
 fn command_from(verb: &[u8], subject: &[u8], day: &[u8], amount: &[u8]) -> Option<Command>
@@ -35,13 +35,13 @@ pub(crate) fn command_of(line: &[u8]) -> Option<Command>
 }
 
 // The choice that a line gives: exactly one word, which writes 1, 2 or 3.
-pub(crate) fn choice_of(line: &[u8]) -> Option<Choice>
+pub(crate) fn choice_of(line: &[u8]) -> Option<RecordKind>
     ensures { result ≡ choice_of line.now }
 {
     let mut words = Words(line);
     let word = words.next()?;
     match words.next() {
-        None => Choice::try_from(natural(word, 255)?).ok(),
+        None => RecordKind::try_from(natural(word, 255)?).ok(),
         Some(_) => None,
     }
 }

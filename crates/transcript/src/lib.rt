@@ -3,7 +3,6 @@
 
 mod answer;
 mod book_state;
-mod choice;
 mod command_line;
 mod lines;
 mod numbers;

@@ -2,13 +2,13 @@ ghost use Rattle.std.specs.Prelude.{◌≡◌, IfOk, string_bytes};
 ghost use Rattle.transcript.specs.Lines.{lines_of};
 ghost use Rattle.transcript.specs.Transcript.{text_after, played_text};
 
-use crate::choice::Choice;
 use crate::lines::Lines;
 use crate::play::play_lines;
 use crate::told::Told;
 use record::closing_book::ClosingBook;
 use record::kitty::Kitty;
 use record::pair::Pair;
+use record::record_kind::RecordKind;
 use record::rounds::Rounds;
 use std::alloc::{AllocError, Global};
 
@@ -28,14 +28,14 @@ fn play_new<R: Told + Drop>(heap: Global, lines: Lines<'_>) -> Result<String, Al
 // The answers to the lines, and then what the record of this choice tells.
 pub(crate) fn played_text(
     heap: Global,
-    choice: Choice,
+    choice: RecordKind,
     lines: Lines<'_>,
 ) -> Result<String, AllocError>
     ensures { IfOk result (λ s. string_bytes s ≡ played_text choice (lines_of lines.entry.0.now)) }
 {
     match choice {
-        Choice::Kitty => play_new::<Kitty>(heap, lines),
-        Choice::Rounds => play_new::<Rounds>(heap, lines),
-        Choice::Both => play_new::<Pair<Kitty, ClosingBook<Rounds>>>(heap, lines),
+        RecordKind::Kitty => play_new::<Kitty>(heap, lines),
+        RecordKind::Rounds => play_new::<Rounds>(heap, lines),
+        RecordKind::Both => play_new::<Pair<Kitty, ClosingBook<Rounds>>>(heap, lines),
     }
 }
