@@ -16,13 +16,11 @@ pub mod HistoryTold
 pub mod KeptCount
 pub mod Membership
 pub mod NodesKept
-pub mod Plays
 pub mod PromisesKept
 pub mod ProposalJoined
 pub mod QuietSeen
 pub mod ReceiptJoined
 pub mod ReceiptWays
-pub mod Relaying
 pub mod Seeing
 pub mod Sending
 pub mod SettlementJoined
@@ -31,5 +29,4 @@ pub mod SheetsPlayed
 pub mod StartJoined
 pub mod StepAnswers
 pub mod StepJoined
-pub mod StepWays
 pub mod WitnessDays
