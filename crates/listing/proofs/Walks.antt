@@ -1,9 +1,9 @@
 -- A walk that lists entry after entry.
-use Rattle.std.proofs.Common.{◌≡◌, ℕ, zero, suc, ◌+◌, ◌<◌, ◌≤◌, true, false, eqb, List, [], ◌++◌, length, Ok, Err, Result, Some}
-use Rattle.std.proofs.Common.{sym, refl, ap}
+use Rattle.std.proofs.Common.{◌≡◌, ℕ, zero, suc, ◌+◌, ◌<◌, ◌≤◌, false, eqb, List, [], ◌++◌, length, Ok, Err, Result, Some}
+use Rattle.std.proofs.Common.{sym, ap}
 use Rattle.std.proofs.Common.{◌∙◌, arith}
 use Rattle.std.proofs.lemmas.List.{append_assoc, append-nil}
-use Rattle.std.proofs.lemmas.Bool.{cond-true, cond-false, eqb-false}
+use Rattle.std.proofs.lemmas.Bool.{cond-false, eqb-false}
 use Rattle.schedule.specs.declared.fault.EntryFault.{EntryFault}
 use Rattle.schedule.specs.declared.entry.Entry.{Entry}
 use Rattle.schedule.specs.declared.reader.Reader.{Reader}
@@ -26,17 +26,6 @@ walked_none bytes p text e t = record {
   enough = omega arith;
   sum = ap (λ x. x ++ lines_from (length bytes) bytes p) t ∙ ap (lines_from (length bytes) bytes) e;
 }
-
--- at the end no line is left
-lines_over : (k : ℕ) (bytes : List ℕ) (p : ℕ) → eqb p (length bytes) ≡ true → lines_from k bytes p ≡ []
-lines_over zero bytes p e = refl
-lines_over (suc k) bytes p e = cond-true (eqb p (length bytes)) _ _ e
-
--- so the text is the whole
-pub walked_over : (bytes : List ℕ) (p : ℕ) (text whole : List ℕ) → eqb p (length bytes) ≡ true →
-    Walked bytes p text whole → text ≡ whole
-walked_over bytes p text whole e w =
-    sym (append-nil text) ∙ (ap (λ l. text ++ l) (sym (lines_over w.most bytes p e)) ∙ w.sum)
 
 module _ (bytes : List ℕ) (p : ℕ) (text text' whole : List ℕ) (left : eqb p (length bytes) ≡ false) where
   -- before the end, the lines begin with what is read there
