@@ -4,6 +4,7 @@ use Rattle.std.proofs.Common.{refl, ap, ◌∙◌, inl, inr, arith}
 use lib.Count.{ones}
 use Rattle.std.proofs.lemmas.Bool.{cases_eq, true≢false, false≢true, or_from, not-true, not_from_true, eq-eqb, ne_eqb, lt-leb}
 use Rattle.std.proofs.lemmas.Bool.{cond-true, cond-false}
+use Rattle.std.proofs.lemmas.Bool.Decides.{nat_tests}
 use Rattle.record.specs.Kind.{Kind}
 use Rattle.chooser.specs.Meaning.{Meaning}
 use Rattle.protocol.specs.Sets.{Set, count, none, only}
@@ -76,9 +77,7 @@ count_only_one n m l =
 -- a known kind passes the test for it
 known_kind : (kind : ℕ) → (kind ≡ data_letter) ⊎ ((kind ≡ acknowledgement) ⊎ (kind ≡ check_letter))
     → (ltb kind data_letter || ltb check_letter kind) ≡ false
-known_kind kind (inl e) = rw e refl
-known_kind kind (inr (inl e)) = rw e refl
-known_kind kind (inr (inr e)) = rw e refl
+known_kind kind e = grind (arith, nat_tests)
 
 module _ {K : Kind} {z : RingSize} {need : ℕ} {low : 1 ≤ need} {high : need ≤ z.q} {w : World} {M : Meaning}
     (j : Joined K z need low high w M) where

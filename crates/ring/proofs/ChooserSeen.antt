@@ -4,6 +4,7 @@ use Rattle.std.proofs.Common.{get_or, Some, None, Option, sym, refl, ap, ◌∙�
 use mathlib.Core.Bool.{or_assoc, or-false}
 use Rattle.std.proofs.lemmas.Bool.{cases_lt, cases_eq, both_ways, false≢true, or_left, or_right, or_cases, or_parts, eqb-true}
 use Rattle.std.proofs.lemmas.Bool.{eq-eqb, ne_eqb, cond-true, cond-false}
+use Rattle.std.proofs.lemmas.Bool.Decides.{nat_tests}
 use Rattle.record.specs.Kind.{Kind}
 use Rattle.chooser.specs.Meaning.{Meaning, Sound, Appended, has_proposed, proposal_of, no_proposal}
 use Rattle.chooser.specs.declared.proposal.Proposal.{Proposal}
@@ -37,44 +38,30 @@ proposal_from : List Proposal → ℕ → Proposal
 proposal_from [] x = no_proposal
 proposal_from (p ∷ ps) x = cond (eqb p.node x) p (proposal_from ps x)
 
--- a part of one of two proposals
-part_of_cond : (f : Proposal → ℕ) (b : Bool) (p q : Proposal) → cond b (f p) (f q) ≡ f (cond b p q)
-part_of_cond f true p q = refl
-part_of_cond f false p q = refl
-
 -- its nonconflicting set is the one that is seen
 first_from : (ps : List Proposal) (x : ℕ) → first_of ps x ≡ (proposal_from ps x).nonconflicting
 unfolding proposal_from
 first_from [] x = refl
-first_from (p ∷ ps) x =
-    ap (cond (eqb p.node x) p.nonconflicting) (first_from ps x)
-    ∙ part_of_cond (λ q. q.nonconflicting) (eqb p.node x) p (proposal_from ps x)
+first_from (p ∷ ps) x = let rest = first_from ps x in grind (arith, nat_tests)
 
 -- the conflicting one too
 second_from : (ps : List Proposal) (x : ℕ) → second_of ps x ≡ (proposal_from ps x).conflicting
 unfolding proposal_from
 second_from [] x = refl
-second_from (p ∷ ps) x =
-    ap (cond (eqb p.node x) p.conflicting) (second_from ps x)
-    ∙ part_of_cond (λ q. q.conflicting) (eqb p.node x) p (proposal_from ps x)
+second_from (p ∷ ps) x = let rest = second_from ps x in grind (arith, nat_tests)
 
 -- the proposal that is added is its node's, if that had none
 from_new : (ps : List Proposal) (p : Proposal) → has_proposed p.node ps ≡ false → proposal_from (ps ++ p ∷ []) p.node ≡ p
 unfolding proposal_from
 from_new [] p h = cond-true (eqb p.node p.node) p no_proposal (eq-eqb p.node p.node refl)
-from_new (q ∷ ps) p h =
-    let neither = or_parts (eqb q.node p.node) (has_proposed p.node ps) h in
-    cond-false (eqb q.node p.node) q (proposal_from (ps ++ p ∷ []) p.node) neither.0 ∙ from_new ps p neither.1
+from_new (q ∷ ps) p h = let rest = from_new ps p in grind (arith, nat_tests)
 
 -- every other node keeps its proposal
 from_old : (ps : List Proposal) (p : Proposal) (x : ℕ) → has_proposed x ps ≡ true
     → proposal_from (ps ++ p ∷ []) x ≡ proposal_from ps x
 unfolding proposal_from
 from_old [] p x h = absurd (false≢true h)
-from_old (q ∷ ps) p x h = elim (or_cases (eqb q.node x) (has_proposed x ps) h) [
-  | inl e ↦ cond-true (eqb q.node x) q (proposal_from (ps ++ p ∷ []) x) e ∙ sym (cond-true (eqb q.node x) q _ e)
-  | inr e ↦ ap (cond (eqb q.node x) q) (from_old ps p x e)
-]
+from_old (q ∷ ps) p x h = let rest = from_old ps p x in grind (arith, nat_tests)
 
 -- where all proposals are of different nodes, each is its node's
 from_place : (n : ℕ) (ps : List Proposal) (k : ℕ) → Listed n ps → k < length ps

@@ -6,6 +6,7 @@ use lib.Pow.{pow-lt}
 use mathlib.Core.Bool.{and-true, and-false}
 use Rattle.std.proofs.lemmas.List.{get_or-set_same, get_or-set_other, length-set}
 use Rattle.std.proofs.lemmas.Bool.{cases_eq, cond_both}
+use Rattle.std.proofs.lemmas.Grind.{common_steps}
 use Rattle.rows.specs.Masks.{has, added}
 use Rattle.rows.specs.Receipts.{heard_from}
 use Rattle.rows.proofs.Receiving.{or_last}
@@ -28,29 +29,20 @@ module _ (heard : List ℕ) (sender x : ℕ) where
   pub heard_length : (k : ℕ) → length (after k) ≡ length heard
   unfolding heard_from
   heard_length zero = refl
-  heard_length (suc k) =
-      cond_both (has x k) (changed k) (after k) (λ (t : List ℕ). length t ≡ length heard)
-      (λ _. length-set (after k) k _ ∙ heard_length k) (λ _. heard_length k)
+  heard_length (suc k) = let rest = heard_length k in grind (arith, common_steps)
 
   -- the entries from k on stay
   pub heard_beyond : (k m : ℕ) → k ≤ m → get_or (after k) m 0 ≡ get_or heard m 0
   unfolding heard_from
   heard_beyond zero m l = refl
   heard_beyond (suc k) m l =
-      let before = heard_beyond k m (omega arith) in
-      cond_both (has x k) (changed k) (after k) (λ (t : List ℕ). get_or t m 0 ≡ get_or heard m 0)
-      (λ _. get_or-set_other (after k) k m _ 0 (λ e. omega (arith, e, l)) ∙ before) (λ _. before)
+      let before = heard_beyond k m (omega arith) in grind (arith, common_steps)
 
   -- the last one has its entry
   heard_last : (k : ℕ) → k < length heard → get_or (after (suc k)) k 0 ≡ entry k
   unfolding heard_from
-  heard_last k l = step (has x k)
-    where
-      -- by whether it is a message of the acknowledgement
-      step : (b : Bool) → get_or (cond b (changed k) (after k)) k 0 ≡ cond b (added (get_or heard k 0) sender) (get_or heard k 0)
-      step true = get_or-set_same (after k) k _ 0 (omega (arith, l, heard_length k))
-          ∙ ap (λ (a : ℕ). added a sender) (heard_beyond k k (omega arith))
-      step false = heard_beyond k k (omega arith)
+  heard_last k l =
+      let before = heard_beyond k k (omega arith) in let long = heard_length k in grind (arith, common_steps)
 
   -- and so have all below k
   pub heard_within : (k m : ℕ) → m < k → k ≤ length heard → get_or (after k) m 0 ≡ entry m

@@ -1,6 +1,6 @@
 -- The tray after a sending.
 use Rattle.std.proofs.Common.{◌≡◌, ℕ, zero, suc, ◌+◌, ◌<◌, ◌≤◌, List, length, get_or, set, sym, refl, ap, ◌∙◌, inl, inr, arith}
-use Rattle.std.proofs.lemmas.Bool.{cases_eq}
+use Rattle.std.proofs.lemmas.Grind.{common_steps, get_or-set_at}
 use Rattle.std.proofs.lemmas.List.{get_or-set_same, get_or-set_other, length-set}
 use Rattle.rows.specs.Letters.{no_letter, addressed, sent}
 use Rattle.rows.specs.declared.letter.Letter.{Letter}
@@ -20,10 +20,5 @@ module _ (tray : List Letter) (used : ℕ) (l : Letter) where
   -- each of the n nodes has its letter
   pub sent_now : (n y : ℕ) → y < n → used + n ≤ length tray → get_or (sent tray used l n) (used + y) no_letter ≡ addressed l y
   sent_now zero y h k = absurd (omega arith)
-  sent_now (suc n) y h k = elim (cases_eq n y) [
-    | inl e ↦ ap (λ (x : ℕ). get_or (set (sent tray used l n) (used + n) (addressed l n)) (used + x) no_letter) (sym e)
-        ∙ get_or-set_same (sent tray used l n) (used + n) (addressed l n) no_letter (omega (arith, k, sent_length n))
-        ∙ ap (addressed l) e
-    | inr d ↦ get_or-set_other (sent tray used l n) (used + n) (used + y) (addressed l n) no_letter (λ e. omega (arith, e, d))
-        ∙ sent_now n y (omega (arith, h, d)) (omega (arith, k))
-  ]
+  sent_now (suc n) y h k =
+      let rest = sent_now n y in let long = sent_length n in grind (arith, common_steps, get_or-set_at)

@@ -6,6 +6,7 @@ use lib.Count.{ones}
 use Rattle.std.proofs.lemmas.List.{append-nil, append_assoc, length-append, length-set, length-drop, drop-set-lt, drop-set-add}
 use Rattle.std.proofs.lemmas.List.{take-set-le, take_more_set}
 use Rattle.std.proofs.lemmas.Bool.{cases_lt}
+use Rattle.std.proofs.lemmas.Bool.Decides.{nat_tests}
 use Rattle.protocol.specs.Lists.{ascending}
 use Rattle.protocol.specs.Sets.{Set, count, ◌∖◌, ◌∪◌}
 use Rattle.protocol.proofs.Counting.{count_le}
@@ -52,32 +53,17 @@ put_away xs place (y ∷ ys) start n (inr h) =
 
 -- ---- how much is written
 
--- the step of ascending-length
-one_more : (b : Bool) (n k x : ℕ) → k ≡ x → k + length (cond {A = List ℕ} b (n ∷ []) []) ≡ cond b (suc x) x
-one_more true n k x e = omega arith
-one_more false n k x e = omega arith
-
 -- the ascending list is as long as its set counts
 ascending_length : (n : ℕ) (f : Set) → length (ascending n f) ≡ count n f
 unfolding ascending count
 ascending_length zero f = refl
-ascending_length (suc n) f =
-    length-append (ascending n f) (cond (f n) (n ∷ []) [])
-    ∙ one_more (f n) n (length (ascending n f)) (count n f) (ascending_length n f)
-
--- the step of count-union
-union_step : (a b : Bool) (x y u : ℕ) → u ≡ x + y
-    → cond (a || b) (suc u) u ≡ cond a (suc x) x + cond (b && not a) (suc y) y
-union_step true true x y u e = omega arith
-union_step true false x y u e = omega arith
-union_step false true x y u e = omega arith
-union_step false false x y u e = omega arith
+ascending_length (suc n) f = let rest = ascending_length n f in grind (arith, nat_tests, length-append)
 
 -- a union counts as many as one part and what the other has beyond it
 count_union : (n : ℕ) (f g : Set) → count n (f ∪ g) ≡ count n f + count n (g ∖ f)
 unfolding count
 count_union zero f g = refl
-count_union (suc n) f g = union_step (f n) (g n) (count n f) (count n (g ∖ f)) (count n (f ∪ g)) (count_union n f g)
+count_union (suc n) f g = let rest = count_union n f g in grind (arith, nat_tests)
 
 -- ---- a sheet with the messages of a, on which those of b that are not there are written too
 module _ (sheets : List ℕ) (node a b : ℕ) where
