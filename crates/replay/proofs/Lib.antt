@@ -1,2 +1,1 @@
 pub mod RunIsDay
-pub mod TurnNamed

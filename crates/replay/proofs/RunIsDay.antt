@@ -1,14 +1,13 @@
--- A run is a day: each of its turns is a call.
-use Rattle.std.proofs.Common.{ℕ, Bool, true, false, List, Option}
+-- A walk is a day: each of its turns is a call.
+use Rattle.std.proofs.Common.{ℕ, Bool, true, false, List}
 use Rattle.record.specs.Kind.{Kind}
 use Rattle.chooser.specs.Meaning.{Meaning}
 use Rattle.ring.specs.World.{World}
 use Rattle.ring.specs.Day as day
 use Rattle.ring.specs.Day.{Day}
 use Rattle.schedule.specs.Entries.{Act}
-use Rattle.schedule.specs.declared.fault.EntryFault.{EntryFault}
 use Rattle.replay.specs.Turns.{Turn, broadcasts, receives, steps, crashes, loses}
-use Rattle.replay.specs.Runs.{Walk, sets_out, accepts, refuses, Runs, ends, stops}
+use Rattle.replay.specs.Runs.{Walk, sets_out, accepts, refuses}
 
 module _ (K : Kind) (w₀ : World) (M₀ : Meaning) where
   -- a turn goes on with the day
@@ -22,13 +21,7 @@ module _ (K : Kind) (w₀ : World) (M₀ : Meaning) where
 
   module _ (bytes : List ℕ) (p₀ : ℕ) where
     -- and so does every turn of a walk
-    walk_day : (p : ℕ) (w : World) (M : Meaning) (yeas nays : ℕ) → Walk K bytes p₀ w₀ M₀ p w M yeas nays → Day K w₀ M₀ w M
+    pub walk_day : (p : ℕ) (w : World) (M : Meaning) (yeas nays : ℕ) → Walk K bytes p₀ w₀ M₀ p w M yeas nays → Day K w₀ M₀ w M
     walk_day _ _ _ _ _ sets_out = day.begins
     walk_day _ _ _ _ _ (accepts p q w v M N a yeas nays k e t) = turn_day w M a true v N (walk_day p w M yeas nays k) t
     walk_day _ _ _ _ _ (refuses p q w v M N a yeas nays k e t) = turn_day w M a false v N (walk_day p w M yeas nays k) t
-
-    -- so a run is a day, however it ends
-    pub run_day : (w : World) (M : Meaning) (yeas nays : ℕ) (o : Option EntryFault) →
-        Runs K bytes p₀ w₀ M₀ w M yeas nays o → Day K w₀ M₀ w M
-    run_day _ _ _ _ _ (ends p w M yeas nays k e) = walk_day p w M yeas nays k
-    run_day _ _ _ _ _ (stops p w M yeas nays f k e h) = walk_day p w M yeas nays k
