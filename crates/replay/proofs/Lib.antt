@@ -1,1 +1,2 @@
 pub mod RunIsDay
+pub mod Ways

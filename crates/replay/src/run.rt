@@ -12,7 +12,7 @@ use schedule::reader::Reader;
 
 // Gives the entries that the reader has ahead to the ring in order, to the end of the bytes or to a fault.
 // Stays with ring, tables and chooser apart: a struct of them would hold five `&mut`, each to be given back by contract.
-#[tactic(auto, using(crate::specs::Runs::sets_out, crate::specs::Runs::accepts, crate::specs::Runs::refuses, crate::specs::Runs::ends, crate::specs::Runs::stops, crate::proofs::RunIsDay::walk_day))]
+#[tactic(auto, using(crate::proofs::Ways::run_ways))]
 pub fn run<R: Record, C: Chooser>(
     reader: Reader<'_>,
     ring: &mut Ring,
