@@ -68,6 +68,7 @@ fn node_line(heap: Global, ring: &Ring, tables: Tables<'_>, node: u8) -> Result<
 }
 
 // The lines of all nodes.
+#[tactic(auto, using(crate::proofs::Growing::nodes_none, crate::proofs::Growing::nodes_more))]
 pub(crate) fn node_lines(
     heap: Global,
     ring: &Ring,
