@@ -8,6 +8,7 @@ use Rattle.std.proofs.lemmas.List.{drop_all, take_rest, get_or-drop}
 use Rattle.std.proofs.lemmas.List.Sums.{passes_at_first}
 use Rattle.std.specs.List.{position, position_or_len}
 use Rattle.std.specs.Option.{unwrap_or}
+use Rattle.transcript.proofs.Fewer.{fewer_left}
 use Rattle.transcript.proofs.Firsts.{none_first, first_at, or_length}
 use Rattle.transcript.specs.Cuts.{onto}
 use Rattle.transcript.specs.Words.{is_blank, in_word, with_byte, words_of}
@@ -72,3 +73,6 @@ word_behind xs ys i e behind =
 pub none_behind : (xs : List ℕ) → None ≡ position in_word xs → words_of xs ≡ []
 none_behind xs e =
     words_behind xs ∙ ap words_of (drop_all (blanks xs) xs (none_first in_word xs e))
+
+-- what an iterator over words needs
+pub ruleset word_steps = (word_behind, none_behind, fewer_left)

@@ -34,6 +34,7 @@ impl<'a> Iterator for Words<'a> {
 
     ghost remaining = { item_count (λ s. words_of s.0.now) };
 
+    #[tactic(auto, using(crate::proofs::WordCuts::word_steps))]
     fn next(&mut self) -> Option<&'a [u8]> {
         let text = &self.0[word_start(self.0)?..];
         let (word, rest) = text.split_at(blank_place(text).unwrap_or(text.len()));
