@@ -1,11 +1,12 @@
 -- A receipt of an acknowledgement is a call of the protocol: it is heard, or it passes.
 use Rattle.std.proofs.Common.{◌≡◌, ℕ, ◌*◌, ◌^◌, ◌<◌, ◌≤◌, Bool, true, false, not, ◌&&◌, ◌||◌, eqb, leb, ◌⊎◌, List, ◌++◌, length}
-use Rattle.std.proofs.Common.{get_or, take, drop, sym, refl, ap, ◌∙◌, subst, ap₂, inl, inr, arith}
+use Rattle.std.proofs.Common.{get_or, take, drop, sym, ap, ◌∙◌, subst, ap₂, inl, inr, arith}
 use lib.Bits.{bit_or, or_lt}
 use lib.Count.{ones}
 use lib.ListN.{get_or-eq_default}
 use mathlib.Core.Bool.{and_assoc}
 use mathlib.Core.Path.{fun_ext}
+use Rattle.std.proofs.lemmas.Bool.Decides.{nat_tests}
 use Rattle.std.proofs.lemmas.Bool.{cases_Bool, cases_eq, cases_lt, both_ways, eqb-true, eq-eqb, ne_eqb, lt-ltb, lt-leb, and_from}
 use Rattle.std.proofs.lemmas.Bool.{and_parts, and_left, not_from_true, not_from_false, cond-true, cond-false}
 use Rattle.record.specs.Kind.{Kind}
@@ -38,10 +39,7 @@ use Rattle.ring.proofs.SheetsGrow.{grown_here}
 
 -- adding what is missing is adding all
 missing : (d e u : Bool) → (d || (e || (u && not (d || e)))) ≡ ((d || e) || u)
-missing true e u = refl
-missing false true u = refl
-missing false false true = refl
-missing false false false = refl
+missing d e u = grind (arith, nat_tests)
 
 -- the same of masks
 missing_set : (d e u : ℕ) → d < 2 ^ 64 → e < 2 ^ 64 → u < 2 ^ 64 →
