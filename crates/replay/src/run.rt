@@ -31,29 +31,23 @@ pub fn run<R: Record, C: Chooser>(
         (world_of ring.new tables.new)
         (C.Chooser.meaning chooser.new) }
 {
-    let mut accepted: usize = 0;
-    let mut refused: usize = 0;
+    let mut tally = Tally::default();
     for read in reader.entries() {
         match read {
             Ok(entry) => {
                 if perform::<R, C>(ring, tables, chooser, entry) {
-                    accepted += 1;
+                    tally.accepted += 1;
                 } else {
-                    refused += 1;
+                    tally.refused += 1;
                 }
             }
             Err(fault) => {
                 return Tally {
-                    accepted,
-                    refused,
                     fault: Some(fault),
+                    ..tally
                 };
             }
         }
     }
-    Tally {
-        accepted,
-        refused,
-        fault: None,
-    }
+    tally
 }

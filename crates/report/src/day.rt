@@ -22,7 +22,7 @@ use std::alloc::{AllocError, Global};
 fn day_lines(
     heap: Global,
     ring: &Ring,
-    tables: Tables<'_>,
+    tables: Tables<'_, '_>,
     size: RingSize,
     tally: Tally,
 ) -> Result<String, AllocError>

@@ -45,7 +45,7 @@ impl fmt::Display for NodeReport<'_> {
 }
 
 // The line of a node.
-fn node_line(heap: Global, ring: &Ring, tables: Tables<'_>, node: u8) -> Result<String, AllocError>
+fn node_line(heap: Global, ring: &Ring, tables: Tables<'_, '_>, node: u8) -> Result<String, AllocError>
     requires { show_refusal (world_in ring.now tables) node ≡ None }
     ensures { IfOk result (λ s. string_bytes s ≡ node_text (world_in ring.now tables.entry) node) }
 {
@@ -72,7 +72,7 @@ fn node_line(heap: Global, ring: &Ring, tables: Tables<'_>, node: u8) -> Result<
 pub(crate) fn node_lines(
     heap: Global,
     ring: &Ring,
-    tables: Tables<'_>,
+    tables: Tables<'_, '_>,
     size: RingSize,
 ) -> Result<String, AllocError>
     requires { (node : ℕ) → node < size.n → show_refusal (world_in ring.now tables) node ≡ None }

@@ -35,7 +35,7 @@ impl Ring {
     pub fn catch_up<R: Record>(
         &self,
         held: &mut R,
-        tables: Tables<'_>,
+        tables: Tables<'_, '_>,
         node: u8,
         mark: usize,
     ) -> Result<usize, Refusal>

@@ -10,6 +10,8 @@ use rows::refusal::Refusal;
 use rows::size::RingSize;
 
 impl Ring {
+    // Stays with the fact on the size, as the step of a gathering node does.
+
     // The step of a closing node that has not proposed: it proposes. Refused: 18 it keeps fewer than q checks; 20 the
     // chooser refuses.
     pub(crate) fn propose<C: Chooser>(

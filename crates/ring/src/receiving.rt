@@ -14,7 +14,7 @@ impl Ring {
     // is spoilt.
     pub(crate) fn examine(
         &self,
-        tables: Tables<'_>,
+        tables: Tables<'_, '_>,
         place: usize,
     ) -> Result<(RingSize, Letter), Refusal>
         ensures { Examined (world_in self.now tables.entry) place result }
@@ -33,6 +33,8 @@ impl Ring {
         }
         Ok((size, letter))
     }
+
+    // Stays with the fact on the size, as the step of a gathering node does.
 
     // Relays a letter in the name of its receiver, if that has to. Refused: 12 fewer free places than nodes.
     fn relay(&mut self, size: RingSize, tray: &mut [Letter], letter: Letter) -> Result<(), Refusal>

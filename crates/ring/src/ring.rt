@@ -20,7 +20,8 @@ pub struct Ring {
     pub(crate) size: Option<RingSize>,
     // how many messages were broadcast; they are numbered in order of broadcast
     pub(crate) messages: u8,
-    // who broadcast each of them; stays apart from the book, and `used` from the tray: both are lent and may hold anything
+    // who broadcast each of them
+    // Stays apart from the book, and `used` from the tray: both are lent, and may hold anything.
     pub(crate) broadcasters: [u8; 64],
     // how many places of the tray are used
     pub(crate) used: usize,

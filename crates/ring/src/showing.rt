@@ -22,7 +22,7 @@ fn used_part<'a>(row: &Row, sheets: &'a [u8], node: u8) -> &'a [u8]
 impl Ring {
     // The numbers of the messages that a node delivered, in order: that part of the sheets itself. Refused: 4 a table
     // has the wrong size; 7 never started; 8 no such node.
-    pub fn show<'a>(&self, tables: Tables<'a>, node: u8) -> Result<&'a [u8], Refusal>
+    pub fn show<'s>(&self, tables: Tables<'_, 's>, node: u8) -> Result<&'s [u8], Refusal>
         ensures { Shows (λ s. s.now)
             (world_in self.now tables.entry) node result }
     {

@@ -14,14 +14,16 @@ const SHEETS: usize = 448;
 // The tables that a caller lends to a call of a ring, to be read: the tray of all letters ever sent, the book of the
 // commands of all messages, and the sheets of the nodes. Their sizes are the caller's, and each call looks at them.
 #[derive(Clone, Copy)]
-pub struct Tables<'a> {
+pub struct Tables<'a, 's> {
     pub tray: &'a [Letter],
     pub book: &'a [Command],
-    pub sheets: &'a [u8],
+    // for a time of its own, since a sheet that is shown is a part of it
+    pub sheets: &'s [u8],
 }
 
-// The same tables, lent to be written. Stays a struct of its own, since who can only read has no `&mut` to lend. That
-// the very slices come back stays in each contract: of a struct of `&mut` a caller knows it only from there.
+// The same tables, lent to be written.
+// Stays a struct of its own: who can only read has no `&mut` to lend.
+// Stays in each contract that the very slices come back: of a struct of `&mut` a caller knows it only from there.
 #[derive(Drop)]
 pub struct TablesMut<'a> {
     pub tray: &'a mut [Letter],
@@ -29,14 +31,14 @@ pub struct TablesMut<'a> {
     pub sheets: &'a mut [u8],
 }
 
-impl Tables<'_> {
+impl Tables<'_, '_> {
     // Whether tables of these sizes may be lent: 1 to 4,096 letters, 64 commands, 448 bytes of sheets. Refused: 4 one
     // has the wrong size.
     pub(crate) fn check_sizes(self) -> Result<(), Refusal>
         ensures { Fits (length self.entry.tray.now) (length self.entry.book.now) (length self.entry.sheets.now) result }
     {
         let (tray, book, sheets) = (self.tray.len(), self.book.len(), self.sheets.len());
-        if tray == 0 || tray > MOST_LETTERS || book != COMMANDS || sheets != SHEETS {
+        if !(1..=MOST_LETTERS).contains(&tray) || book != COMMANDS || sheets != SHEETS {
             return Err(Refusal::WrongTableSize);
         }
         Ok(())
@@ -45,7 +47,7 @@ impl Tables<'_> {
 
 impl TablesMut<'_> {
     // These tables, to be read.
-    pub fn view(&self) -> Tables<'_>
+    pub fn view(&self) -> Tables<'_, '_>
         ensures tray { result.tray.now ≡ self.now.tray.now }
         ensures book { result.book.now ≡ self.now.book.now }
         ensures sheets { result.sheets.now ≡ self.now.sheets.now }

@@ -119,7 +119,7 @@ impl Desk {
     }
 
     // The tables, to be read.
-    pub(crate) fn tables(&self) -> Tables<'_> {
+    pub(crate) fn tables(&self) -> Tables<'_, '_> {
         Tables {
             tray: &self.tray,
             book: &self.book,
