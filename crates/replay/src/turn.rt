@@ -10,6 +10,7 @@ use schedule::entry::Entry;
 
 // Gives one entry to the ring, and tells whether the ring accepted it.
 // Stays a bool by a match: a run counts the two answers and asks no more, and each entry is a call of its own.
+// Stays with ring, tables and chooser apart, as `run` does.
 #[tactic(auto, using(crate::proofs::Ways::turn_ways))]
 pub fn perform<R: Record, C: Chooser>(
     ring: &mut Ring,

@@ -14,6 +14,7 @@ use schedule::reader::Reader;
 // A day from its start: starts the ring and gives it the entries that the reader has ahead. The promises of a day hold of
 // what it leaves. Refused where the start is: 4 a table has the wrong size; 5 the chooser's need is above the quorum; 6 a
 // stage of the chooser has a proposal.
+// Stays with ring, tables and chooser apart, as `run` does.
 pub fn run_day<R: Record, C: Chooser>(
     size: RingSize,
     reader: Reader<'_>,

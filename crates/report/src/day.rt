@@ -32,6 +32,7 @@ fn day_lines(
         ++ counts_text tally.accepted tally.refused) tally.fault) }
 {
     let mut text = node_lines(heap, ring, tables, size)?;
+    // Stays pushed: the lines come from public functions.
     let counts = counts_line(heap, tally.accepted, tally.refused)?;
     text.push_str(counts.as_str())?;
     if let Some(fault) = tally.fault {

@@ -21,7 +21,7 @@ use std::alloc::{AllocError, Global};
 // The most bytes that a day may have.
 const MOST_BYTES: usize = 4096;
 
-// Stays three functions with a match each, of which each hands on what it has not used: every arm is another type.
+// Stays four parameters and more: each of these functions hands on what it has not used.
 
 // The text of a day with this chooser, by its kind of record.
 fn with_chooser<C: Chooser>(
@@ -34,6 +34,7 @@ fn with_chooser<C: Chooser>(
     ensures { IfOk result (λ s. Printed (kind_of kind) size reader.entry.bytes.now reader.entry.place
         (C.Chooser.meaning chooser.old) (string_bytes s)) }
 {
+    // Stays a match: each arm is another type.
     match kind {
         RecordKind::Kitty => day_text::<Kitty, C>(heap, reader, size, chooser),
         RecordKind::Rounds => day_text::<Rounds, C>(heap, reader, size, chooser),
@@ -54,6 +55,7 @@ fn with_size(
     ensures { IfOk result (λ s. BySize (size_refusal header.n header.q) header reader.entry.bytes.now
         reader.entry.place (string_bytes s)) }
 {
+    // Stays a match: each arm is another type.
     match header.chooser {
         ChooserKind::FirstCome => {
             let mut chooser = FirstCome::new();

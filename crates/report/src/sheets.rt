@@ -1,4 +1,4 @@
-ghost use Rattle.std.specs.Prelude.{◌≡◌, ℕ, ◌<◌, IfOk, None, Some, string_bytes};
+ghost use Rattle.std.specs.Prelude.{◌≡◌, ℕ, ◌<◌, ◌++◌, IfOk, None, codes, Some, string_bytes};
 ghost use Rattle.ring.specs.World.{world_in};
 ghost use Rattle.ring.specs.Show.{show_refusal};
 ghost use Rattle.report.specs.Lines.{state_text, report_text, node_text, nodes_text};
@@ -44,25 +44,23 @@ impl fmt::Display for NodeReport<'_> {
     }
 }
 
-// The line of a node.
-fn node_line(heap: Global, ring: &Ring, tables: Tables<'_, '_>, node: u8) -> Result<String, AllocError>
+// What is reported of a node of the ring.
+fn report_on<'s>(ring: &Ring, tables: Tables<'_, 's>, node: u8) -> NodeReport<'s>
     requires { show_refusal (world_in ring.now tables) node ≡ None }
-    ensures { IfOk result (λ s. string_bytes s ≡ node_text (world_in ring.now tables.entry) node) }
+    ensures { report_text result.node result.stage result.live result.sheet.now ++ codes "\n" ≡
+        node_text (world_in ring.now tables.entry) node }
 {
     match (
         ring.show(tables, node),
         ring.stage(node),
         ring.is_live(node),
     ) {
-        (Ok(sheet), Ok(stage), Ok(live)) => {
-            let report = NodeReport {
-                node,
-                stage,
-                live,
-                sheet,
-            };
-            format!(in heap; "{report}\n")
-        }
+        (Ok(sheet), Ok(stage), Ok(live)) => NodeReport {
+            node,
+            stage,
+            live,
+            sheet,
+        },
         _ => unreachable!(),
     }
 }
@@ -80,8 +78,7 @@ pub(crate) fn node_lines(
 {
     let mut text = String::new(heap);
     for node in 0..size.n {
-        let line = node_line(heap, ring, tables, node)?;
-        text.push_str(line.as_str())?;
+        writeln!(text, "{}", report_on(ring, tables, node))?;
     }
     Ok(text)
 }
