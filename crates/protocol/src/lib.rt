@@ -7,21 +7,25 @@ ghost use Rattle.protocol.specs.Promises.{RunsAreSound};
 ghost use Rattle.protocol.specs.Witnesses.{ARunDeliversEarly, ARunSettles, ARunHasTwoOrders};
 
 // Whatever calls a run makes from the start on, it comes to a state that keeps every promise.
+#[tactic(auto, using(crate::proofs::Promises::runs_are_sound))]
 pub fn runs_are_sound()
     ensures { RunsAreSound }
 {}
 
 // There is a run in which a node delivers a message ahead of any decision.
+#[tactic(auto, using(crate::proofs::Witnesses::delivers_early))]
 pub fn a_run_delivers_early()
     ensures { ARunDeliversEarly }
 {}
 
 // There is a run in which a node closes a stage over two conflicting messages and settles it by a decision.
+#[tactic(auto, using(crate::proofs::Witnesses::settles_by_decision))]
 pub fn a_run_settles()
     ensures { ARunSettles }
 {}
 
 // There is a run in which two nodes deliver two messages that do not conflict in different orders.
+#[tactic(auto, using(crate::proofs::Witnesses::delivers_in_two_orders))]
 pub fn a_run_has_two_orders()
     ensures { ARunHasTwoOrders }
 {}
