@@ -1,6 +1,6 @@
 -- A gathering node acknowledges what it has not delivered.
-use Rattle.std.proofs.Common.{◌≡◌, ℕ, ◌<◌, Bool, false, not, sym, refl, ap, ◌∙◌, subst, inl, inr, arith}
-use Rattle.std.proofs.lemmas.Bool.{both_ways, and_from, and_parts, not-true, not_from_false}
+use Rattle.std.proofs.Common.{◌≡◌, ℕ, ◌<◌, Bool, false, sym, refl, ap, ◌∙◌, subst, inl, inr, arith}
+use Rattle.std.proofs.lemmas.Bool.{both_ways}
 use Rattle.protocol.specs.Sets.{Set, ◌∈◌, ◌∉◌}
 use Rattle.protocol.specs.Ring.{Size, State, Node, Letter, acknowledgement, check_letter}
 use Rattle.protocol.specs.Nodes.{undelivered, after_acknowledging}
@@ -13,11 +13,11 @@ use Rattle.protocol.proofs.Acting.{live_same, proposers_same, continues_same, bo
 
 -- what a node has not delivered: it received it
 pub undelivered_parts : (N : Node) (m : ℕ) → m ∈ undelivered N → (m ∈ N.received) × (m ∉ N.delivered)
-undelivered_parts N m h = let p = and_parts (N.received m) (not (N.delivered m)) h in (p.0, not-true (N.delivered m) p.1)
+undelivered_parts N m h = (grind arith, grind arith)
 
 -- and the other way round
 pub undelivered_from : (N : Node) (m : ℕ) → m ∈ N.received → m ∉ N.delivered → m ∈ undelivered N
-undelivered_from N m h k = and_from (N.received m) (not (N.delivered m)) h (not_from_false (N.delivered m) k)
+undelivered_from N m h k = grind arith
 
 module _ {z : Size} {s t : State} (r : ℕ) (o : Ok z s) (c : Acknowledges z s t r) where
   -- the node before the call

@@ -1,7 +1,7 @@
 -- A gathering node hears an acknowledgement of its stage, and delivers early what now has a quorum.
-use Rattle.std.proofs.Common.{◌≡◌, ℕ, ◌<◌, ◌≤◌, true, false, not, ◌&&◌, eqb, leb, ◌⊎◌, sym, refl, ◌∙◌, subst, inl, inr, arith}
-use Rattle.std.proofs.lemmas.Bool.{cases_Bool, both_ways, or_left, or_right, or_cases, and_from, and_parts, eqb-true, eq-eqb}
-use Rattle.std.proofs.lemmas.Bool.{leb-true, le-leb, not-true, not_from_false}
+use Rattle.std.proofs.Common.{◌≡◌, ℕ, ◌<◌, ◌≤◌, true, false, ◌&&◌, eqb, ◌⊎◌, sym, refl, ◌∙◌, subst, inl, inr, arith}
+use Rattle.std.proofs.lemmas.Bool.{cases_Bool, both_ways, or_left, or_cases, and_parts, eqb-true, eq-eqb}
+use Rattle.std.proofs.lemmas.Bool.{leb-true, le-leb}
 use Rattle.protocol.specs.Sets.{Set, ◌∈◌, ◌∉◌, count}
 use Rattle.protocol.specs.Lists.{Mem, Before, ascending}
 use Rattle.protocol.specs.Ring.{Size, State, Node, Letter, taken}
@@ -64,7 +64,7 @@ module _ {z : Size} {s t : State} (i : ℕ) (o : Ok z s) (c : Hears z s t i) whe
 
   -- nobody is forgotten
   more : (m y : ℕ) → y ∈ N.heard m → y ∈ N'.heard m
-  more m y h = or_left (N.heard m y) (eqb y x && S m) h
+  more m y h = grind (arith, h)
 
   -- everybody that it heard acknowledged the message
   heard_from : (m y : ℕ) → y < z.n → y ∈ N'.heard m → Acknowledged t y N.stage m
@@ -81,10 +81,11 @@ module _ {z : Size} {s t : State} (i : ℕ) (o : Ok z s) (c : Hears z s t i) whe
 
   -- what is delivered now has a quorum and was not delivered before
   fresh : (m : ℕ) → m ∈ D → (z.ack ≤ count z.n (N'.heard m)) × (m ∉ N.delivered) × (m ∉ N.early)
-  fresh m h =
-      let p = and_parts (leb z.ack (count z.n (N'.heard m))) (not (N.delivered m) && not (N.early m)) h in
-      let q = and_parts (not (N.delivered m)) (not (N.early m)) p.1 in
-      (leb-true z.ack (count z.n (N'.heard m)) p.0, not-true (N.delivered m) q.0, not-true (N.early m) q.1)
+  fresh m h = (
+    leb-true z.ack (count z.n (N'.heard m)) (grind (arith, h)),
+    grind (arith, h),
+    grind (arith, h),
+  )
 
   -- what it delivered early has a quorum
   early_heard : (m : ℕ) → m ∈ N'.early → z.ack ≤ count z.n (N'.heard m)
@@ -119,11 +120,8 @@ module _ {z : Size} {s t : State} (i : ℕ) (o : Ok z s) (c : Hears z s t i) whe
     heard_early = λ m g h. elim (cases_Bool (N.delivered m)) [
       | inl p ↦ inl p
       | inr p ↦ inr (elim (cases_Bool (N.early m)) [
-        | inl q ↦ or_left (N.early m) (D m) q
-        | inr q ↦ or_right (N.early m) (D m) (and_from (leb z.ack (count z.n (N'.heard m)))
-            (not (N.delivered m) && not (N.early m)) (le-leb z.ack (count z.n (N'.heard m)) h)
-            (and_from (not (N.delivered m)) (not (N.early m)) (not_from_false (N.delivered m) p)
-            (not_from_false (N.early m) q)))
+        | inl q ↦ grind (arith, q)
+        | inr q ↦ grind (arith, p, q, le-leb z.ack (count z.n (N'.heard m)) h)
       ])
     ];
   }
@@ -136,7 +134,7 @@ module _ {z : Size} {s t : State} (i : ℕ) (o : Ok z s) (c : Hears z s t i) whe
 
   -- and is early
   into_early : (m : ℕ) → m ∈ D → m ∈ N'.early
-  into_early m h = or_right (N.early m) (D m) h
+  into_early m h = grind (arith, h)
 
   -- the sheet has delivered and early messages only
   has : (m : ℕ) → Mem m N'.sheet → (m ∈ N.delivered) ⊎ (m ∈ N'.early)
@@ -197,7 +195,7 @@ module _ {z : Size} {s t : State} (i : ℕ) (o : Ok z s) (c : Hears z s t i) whe
   taken_now A B h f v = subst (λ (L : Letter). TakenBy z N' L) (sym (receiving.turned_is o i c.takes A B h)) (record {
     stage_le = c.takes.not_ahead;
     data_in = λ a p. absurd (omega (arith, p, c.kind));
-    ack_in = λ m p q g k. or_right (N.heard m x) (eqb x x && S m) (and_from (eqb x x) (S m) (eq-eqb x x refl) k);
+    ack_in = λ m p q g k. grind (arith, k, eq-eqb x x refl);
     check_in = λ p. absurd (omega (arith, p, c.kind));
   })
 

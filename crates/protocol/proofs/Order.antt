@@ -1,6 +1,6 @@
 -- The order that the decisions fix goes one way, and the quorums see to it that no early delivery goes against it.
-use Rattle.std.proofs.Common.{◌≡◌, ℕ, zero, suc, ◌+◌, ◌-◌, ◌<◌, ◌≤◌, true, false, ◌&&◌, ◌||◌, sym, ◌∙◌, subst, inl, inr, arith}
-use Rattle.std.proofs.lemmas.Bool.{cases_lt, cases_order, both_ways, or_left, or_right, and_from, and_parts}
+use Rattle.std.proofs.Common.{◌≡◌, ℕ, zero, suc, ◌+◌, ◌-◌, ◌<◌, ◌≤◌, true, false, ◌&&◌, sym, ◌∙◌, subst, inl, inr, arith}
+use Rattle.std.proofs.lemmas.Bool.{cases_lt, cases_order, both_ways, and_from, and_parts}
 use Rattle.protocol.specs.Sets.{Set, ◌∈◌, ◌∉◌, count, ◌∩◌}
 use Rattle.protocol.specs.Lists.{Before}
 use Rattle.protocol.specs.Ring.{Size, State}
@@ -14,19 +14,17 @@ module _ (s : State) where
   -- what a stage decides as nonconflicting is past afterwards
   pub past_first : (j m : ℕ) → m ∈ s.nonconflicting j → m ∈ past s (suc j)
   unfolding past
-  past_first j m h = or_right (past s j m) (s.nonconflicting j m || s.conflicting j m)
-      (or_left (s.nonconflicting j m) (s.conflicting j m) h)
+  past_first j m h = grind (arith, h)
 
   -- and so is what it decides as conflicting
   pub past_second : (j m : ℕ) → m ∈ s.conflicting j → m ∈ past s (suc j)
   unfolding past
-  past_second j m h = or_right (past s j m) (s.nonconflicting j m || s.conflicting j m)
-      (or_right (s.nonconflicting j m) (s.conflicting j m) h)
+  past_second j m h = grind (arith, h)
 
   -- what is past stays past
   pub past_more : (j m : ℕ) → m ∈ past s j → m ∈ past s (suc j)
   unfolding past
-  past_more j m h = or_left (past s j m) (s.nonconflicting j m || s.conflicting j m) h
+  past_more j m h = grind (arith, h)
 
   -- by any number of stages
   up : (j d m : ℕ) → m ∈ past s j → m ∈ past s (d + j)

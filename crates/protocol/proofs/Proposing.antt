@@ -1,6 +1,6 @@
 -- A closing node that keeps enough checks proposes.
 use Rattle.std.proofs.Common.{◌≡◌, ℕ, ◌/◌, ◌<◌, Bool, true, not, ◌&&◌, ◌||◌, ◌⊎◌, sym, refl, ap, ◌∙◌, subst, inl, inr, arith}
-use Rattle.std.proofs.lemmas.Bool.{cases_Bool, or_left, or_right, or_cases, and_from, and_parts, ltb-true, lt-ltb, not_from_false}
+use Rattle.std.proofs.lemmas.Bool.{cases_Bool, or_cases, and_parts, ltb-true, lt-ltb}
 use Rattle.protocol.specs.Sets.{Set, ◌∈◌, count, ◌∖◌, ◌∪◌}
 use Rattle.protocol.specs.Ring.{Size, State, Node}
 use Rattle.protocol.specs.Setters.{with_proposed}
@@ -83,10 +83,7 @@ module _ {z : Size} {s t : State} (r : ℕ) (o : Ok z s) (c : Proposes z s t r) 
 
   -- what is received and new is proposed
   in_pair : (m : ℕ) → m ∈ undelivered N → m ∈ (V ∪ D)
-  in_pair m h = elim (cases_Bool (V m)) [
-    | inl v ↦ or_left (V m) (D m) v
-    | inr v ↦ or_right (V m) (D m) (and_from (undelivered N m) (not (V m)) h (not_from_false (V m) v))
-  ]
+  in_pair m h = grind (arith, cases_Bool (V m))
 
   -- its cause to close is among what it proposes
   cause : Cause t N.stage (V ∪ D)

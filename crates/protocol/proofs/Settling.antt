@@ -1,8 +1,8 @@
 -- A closing node settles its stage by the decision: its sheet goes on as the decided order says.
-use Rattle.std.proofs.Common.{◌≡◌, ℕ, suc, ◌<◌, Bool, true, false, not, ◌&&◌, ◌||◌, ◌⊎◌, ◌++◌, sym, refl, ap, ◌∙◌, subst, inl}
+use Rattle.std.proofs.Common.{◌≡◌, ℕ, suc, ◌<◌, Bool, true, false, ◌||◌, ◌⊎◌, ◌++◌, sym, refl, ap, ◌∙◌, subst, inl}
 use Rattle.std.proofs.Common.{inr, arith}
-use Rattle.std.proofs.lemmas.Bool.{cases_Bool, cases_eq, both_ways, or_left, or_right, or_cases, and_from, and_parts}
-use Rattle.std.proofs.lemmas.Bool.{not-true, not_from_false, false≢true}
+use Rattle.std.proofs.lemmas.Bool.{cases_Bool, cases_eq, both_ways}
+use Rattle.std.proofs.lemmas.Bool.{false≢true}
 use Rattle.protocol.specs.Sets.{Set, ◌∈◌, ◌∉◌, none}
 use Rattle.protocol.specs.Lists.{Mem, Once, Before, ascending}
 use Rattle.protocol.specs.Ring.{Size, State, Node, Letter}
@@ -52,10 +52,7 @@ none_kept z s j = record {
 
 -- the delivered set after the settling is the past before it and the decision, since what was early is in the decision
 joined : (g e n c : Bool) → (e ≡ true → n ≡ true) → (((g || e) || n) || c) ≡ (g || (n || c))
-joined true e n c h = refl
-joined false true true c h = refl
-joined false true false c h = absurd (false≢true (h refl))
-joined false false n c h = refl
+joined g e n c h = grind arith
 
 module _ {z : Size} {s t : State} (r : ℕ) (o : Ok z s) (c : Settles z s t r) where
   -- the node before the call
@@ -106,31 +103,19 @@ module _ {z : Size} {s t : State} (r : ℕ) (o : Ok z s) (c : Settles z s t r) w
 
   -- what comes first is nonconflicting and new
   first_parts : (m : ℕ) → Mem m (ascending 64 A) → (m ∈ NC) × (m ∉ N.delivered) × (m ∉ N.early)
-  first_parts m h =
-      let p = and_parts (NC m && not (N.delivered m)) (not (N.early m)) (ascending_mem 64 A m h).1 in
-      let q = and_parts (NC m) (not (N.delivered m)) p.0 in
-      (q.0, not-true (N.delivered m) q.1, not-true (N.early m) p.1)
+  first_parts m h = let p : m ∈ A = (ascending_mem 64 A m h).1 in (grind arith, grind arith, grind arith)
 
   -- what comes then is conflicting and new
   then_parts : (m : ℕ) → Mem m (ascending 64 B) → (m ∈ C) × (m ∉ N.delivered) × (m ∉ N.early) × (m ∉ NC)
-  then_parts m h =
-      let p = and_parts (C m && not (N.delivered m) && not (N.early m)) (not (NC m)) (ascending_mem 64 B m h).1 in
-      let q = and_parts (C m && not (N.delivered m)) (not (N.early m)) p.0 in
-      let u = and_parts (C m) (not (N.delivered m)) q.0 in
-      (u.0, not-true (N.delivered m) u.1, not-true (N.early m) q.1, not-true (NC m) p.1)
+  then_parts m h = let p : m ∈ B = (ascending_mem 64 B m h).1 in (grind arith, grind arith, grind arith, grind arith)
 
   -- every new nonconflicting message comes first
   into_first : (m : ℕ) → m < 64 → m ∈ NC → m ∉ N.delivered → m ∉ N.early → Mem m (ascending 64 A)
-  into_first m l p g f = mem_ascending 64 A m l (and_from (NC m && not (N.delivered m)) (not (N.early m))
-      (and_from (NC m) (not (N.delivered m)) p (not_from_false (N.delivered m) g)) (not_from_false (N.early m) f))
+  into_first m l p g f = mem_ascending 64 A m l (grind arith)
 
   -- every other new one then
   into_then : (m : ℕ) → m < 64 → m ∈ C → m ∉ N.delivered → m ∉ N.early → m ∉ NC → Mem m (ascending 64 B)
-  into_then m l p g f d = mem_ascending 64 B m l
-      (and_from (C m && not (N.delivered m) && not (N.early m)) (not (NC m))
-      (and_from (C m && not (N.delivered m)) (not (N.early m))
-      (and_from (C m) (not (N.delivered m)) p (not_from_false (N.delivered m) g)) (not_from_false (N.early m) f))
-      (not_from_false (NC m) d))
+  into_then m l p g f d = mem_ascending 64 B m l (grind arith)
 
   -- the decision was broadcast
   known : (m : ℕ) → (m ∈ NC) ⊎ (m ∈ C) → m < s.messages
@@ -239,7 +224,7 @@ module _ {z : Size} {s t : State} (r : ℕ) (o : Ok z s) (c : Settles z s t r) w
 
   -- what is new is not on the old sheet
   not_old : (m : ℕ) → Mem m N.sheet → m ∉ N.delivered → m ∉ N.early → ⊥
-  not_old m h g f = elim (ok.sheet.has m h) [ inl p ↦ both_ways (N.delivered m) g p | inr p ↦ both_ways (N.early m) f p ]
+  not_old m h g f = grind (arith, ok.sheet.has m h)
 
   -- nothing comes twice
   once : Once N'.sheet
@@ -272,14 +257,9 @@ module _ {z : Size} {s t : State} (r : ℕ) (o : Ok z s) (c : Settles z s t r) w
 
   -- it is delivered
   into_delivered : (m : ℕ) → On m → m ∈ N'.delivered
-  into_delivered m (on_old h) = or_left ((N.delivered m || N.early m) || NC m) (C m)
-      (or_left (N.delivered m || N.early m) (NC m) (elim (ok.sheet.has m h) [
-        | inl g ↦ or_left (N.delivered m) (N.early m) g
-        | inr g ↦ or_right (N.delivered m) (N.early m) g
-      ]))
-  into_delivered m (on_first h) = or_left ((N.delivered m || N.early m) || NC m) (C m)
-      (or_right (N.delivered m || N.early m) (NC m) (first_parts m h).0)
-  into_delivered m (on_then h) = or_right ((N.delivered m || N.early m) || NC m) (C m) (then_parts m h).0
+  into_delivered m (on_old h) = grind (arith, ok.sheet.has m h)
+  into_delivered m (on_first h) = grind (arith, (first_parts m h).0)
+  into_delivered m (on_then h) = grind (arith, (then_parts m h).0)
 
   -- and every delivered message is on it
   has_delivered : (m : ℕ) → m ∈ N'.delivered → On m
@@ -289,20 +269,10 @@ module _ {z : Size} {s t : State} (r : ℕ) (o : Ok z s) (c : Settles z s t r) w
       | inl f ↦ on_old (ok.sheet.has_early m f)
       | inr f ↦ elim (cases_Bool (NC m)) [
         | inl p ↦ on_first (into_first m (small m (known m (inl p))) p g f)
-        | inr p ↦ last g f p (or_cases ((N.delivered m || N.early m) || NC m) (C m) h)
+        | inr p ↦ let q : m ∈ C = grind arith in on_then (into_then m (small m (known m (inr q))) q g f p)
       ]
     ]
   ]
-    where
-      last : m ∉ N.delivered → m ∉ N.early → m ∉ NC → (((N.delivered m || N.early m) || NC m) ≡ true) ⊎ (m ∈ C) → On m
-      last g f p (inl q) = elim (or_cases (N.delivered m || N.early m) (NC m) q) [
-        | inl u ↦ elim (or_cases (N.delivered m) (N.early m) u) [
-          | inl v ↦ absurd (both_ways (N.delivered m) g v)
-          | inr v ↦ absurd (both_ways (N.early m) f v)
-        ]
-        | inr u ↦ absurd (both_ways (NC m) p u)
-      ]
-      last g f p (inr q) = on_then (into_then m (small m (known m (inr q))) q g f p)
 
   -- it was broadcast
   on_known : (m : ℕ) → On m → m < t.messages

@@ -1,5 +1,5 @@
 -- Stages are few: each finished stage has put two messages more into the past, and one that is closing has two more.
-use Rattle.std.proofs.Common.{◌≡◌, ℕ, zero, suc, ◌+◌, ◌*◌, ◌<◌, ◌≤◌, true, ◌⊎◌, sym, refl, ◌∙◌, subst, inl, inr, arith}
+use Rattle.std.proofs.Common.{◌≡◌, ℕ, zero, suc, ◌+◌, ◌*◌, ◌<◌, ◌≤◌, true, ◌⊎◌, sym, refl, ap, ◌∙◌, subst, inl, inr, arith}
 use Rattle.std.proofs.lemmas.Bool.{both_ways, or_left, or_right, or_cases}
 use Rattle.protocol.specs.Sets.{Set, ◌∈◌, ◌∉◌, count, ◌∪◌}
 use Rattle.protocol.specs.Ring.{Size, State}
@@ -34,17 +34,11 @@ module _ {z : Size} {s : State} (o : Ok z s) where
     where
       into : (M D : Set) (m : ℕ) → s.nonconflicting j ≡ M → s.conflicting j ≡ D → m ∈ (M ∪ D)
           → m ∈ (s.nonconflicting j ∪ s.conflicting j)
-      into M D m p q h = elim (or_cases (M m) (D m) h) [
-        | inl x ↦ or_left (s.nonconflicting j m) (s.conflicting j m) (carry m (sym p) x)
-        | inr x ↦ or_right (s.nonconflicting j m) (s.conflicting j m) (carry m (sym q) x)
-      ]
+      into M D m p q h = grind (arith, ap (λ (X : Set). X m) p, ap (λ (X : Set). X m) q)
 
   -- what a decision has is past afterwards
   decided_past : (j m : ℕ) → DecisionHas s j m → m ∈ past s (suc j)
-  decided_past j m h = elim h [
-    | inl x ↦ past_first s j m x
-    | inr x ↦ past_second s j m x
-  ]
+  decided_past j m h = grind (arith, past_first s j m, past_second s j m)
 
   -- a message of the cause of a finished stage of node r
   put_by : (j r m : ℕ) → j ∈ s.decided → r < z.n → j < (s.node r).stage → m ∈ (s.nonconflicting j ∪ s.conflicting j)
