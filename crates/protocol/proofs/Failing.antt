@@ -1,7 +1,7 @@
 -- Calls that change no node: a letter is passed over or lost, or a node crashes.
 use Rattle.std.proofs.Common.{◌≡◌, ℕ, not, eqb, ◌⊎◌, sym, refl, ap, ◌∙◌, subst, inl, inr, arith}
-use Rattle.std.proofs.lemmas.Bool.{and_left, both_ways, eqb-true}
-use Rattle.protocol.specs.Sets.{Set, ◌∈◌}
+use Rattle.std.proofs.lemmas.Bool.{and_left, eqb-true}
+use Rattle.protocol.specs.Sets.{Set}
 use Rattle.protocol.specs.Ring.{Size, State, Letter, taken, lost}
 use Rattle.protocol.specs.Calls.{SameBook, SameChooser, SameLive, SameNodes, NoneSent, Marks, marked, taker}
 use Rattle.protocol.specs.Calls.{ReceivesKnown, PassesAcknowledgement, PassesCheck, Crashes, Loses}
@@ -62,8 +62,7 @@ pub receives_known_ok : {z : Size} {s t : State} (i m : ℕ) → Ok z s → Rece
 receives_known_ok {z} {s} i m o c = let k = c.takes in
     marks_ok o i taken k.marks c.silent c.nodes k.book k.chooser k.live (inl refl) (λ v. record {
       stage_le = k.not_ahead;
-      data_in = λ a q w. subst (λ (y : ℕ). y ∈ (taker s i).received)
-          (sym (eqb-true a m (carry a c.message w))) c.known;
+      data_in = λ a q w. grind (arith, eqb-true a m (carry a c.message w), c.known);
       ack_in = λ a q. absurd (omega (arith, q, c.kind));
       check_in = λ q. absurd (omega (arith, q, c.kind));
     })
@@ -74,10 +73,7 @@ passes_acknowledgement_ok {z} {s} i o c = let k = c.takes in
     marks_ok o i taken k.marks c.silent c.nodes k.book k.chooser k.live (inl refl) (λ v. record {
       stage_le = k.not_ahead;
       data_in = λ a q. absurd (omega (arith, q, c.kind));
-      ack_in = λ a q g f h. elim c.late [
-        | inl x ↦ absurd (omega (arith, x, g))
-        | inr x ↦ absurd (both_ways (taker s i).closing f x)
-      ];
+      ack_in = λ a q g f h. grind (arith, c.late, g, f);
       check_in = λ q. absurd (omega (arith, q, c.kind));
     })
 
@@ -88,11 +84,7 @@ passes_check_ok i o c = let k = c.takes in
       stage_le = k.not_ahead;
       data_in = λ a q. absurd (omega (arith, q, c.kind));
       ack_in = λ a q. absurd (omega (arith, q, c.kind));
-      check_in = λ q g. elim c.late [
-        | inl x ↦ absurd (omega (arith, x, g))
-        | inr (inl x) ↦ inr x
-        | inr (inr x) ↦ inl x
-      ];
+      check_in = λ q g. grind (arith, c.late, g);
     })
 
 -- a lost letter

@@ -1,6 +1,6 @@
 -- A node receives a check of its stage and keeps it.
-use Rattle.std.proofs.Common.{◌≡◌, ℕ, ◌<◌, ◌≤◌, true, cond, eqb, ◌⊎◌, sym, refl, ap, ◌∙◌, subst, inl, inr, arith}
-use Rattle.std.proofs.lemmas.Bool.{both_ways, or_left, or_right, or_cases, eqb-true, eq-eqb, ne_eqb, cond-true, cond-false}
+use Rattle.std.proofs.Common.{◌≡◌, ℕ, ◌<◌, ◌≤◌, true, false, cond, eqb, ◌⊎◌, sym, refl, subst, inl, inr, arith}
+use Rattle.std.proofs.lemmas.Bool.{or_cases, eqb-true, eq-eqb, cond-true, cond-false}
 use Rattle.protocol.specs.Sets.{Set, ◌∈◌, count, only}
 use Rattle.protocol.specs.Ring.{Size, State, Node, Letter, taken}
 use Rattle.protocol.specs.Setters.{with_check}
@@ -44,7 +44,7 @@ module _ {z : Size} {s t : State} (i : ℕ) (o : Ok z s) (c : KeepsCheck z s t i
   -- each kept check was sent: an old one, or this one
   checked : (y : ℕ) → y < z.n → (y ∈ N.kept) ⊎ (eqb y x ≡ true) → Checked t y N.stage (cond (eqb y x) S (N.check y))
   checked y l (inl h) =
-      let other : eqb y x ≡ _ = ne_eqb y x (λ p. both_ways (N.kept y) (ap N.kept p ∙ c.new) h) in
+      let other : eqb y x ≡ false = grind (arith, c.new, eqb-true y x) in
       subst (λ (T : Set). Checked t y N.stage T) (sym (cond-false (eqb y x) S (N.check y) other))
       (checked_up e y N.stage (N.check y) (ok.checks.kept_from y l h))
   checked y l (inr h) =
@@ -54,7 +54,7 @@ module _ {z : Size} {s t : State} (i : ℕ) (o : Ok z s) (c : KeepsCheck z s t i
 
   -- the check that was kept counts, and so do the others
   more : count z.n N.kept ≤ count z.n N'.kept
-  more = count_mono z.n N.kept N'.kept (λ y l h. or_left (N.kept y) (eqb y x) h)
+  more = count_mono z.n N.kept N'.kept (λ y l h. grind arith)
 
   -- the letters that it took before
   taken_before : (L : Letter) → TakenBy z N L → TakenBy z N' L
@@ -63,7 +63,7 @@ module _ {z : Size} {s t : State} (i : ℕ) (o : Ok z s) (c : KeepsCheck z s t i
     data_in = h.data_in;
     ack_in = h.ack_in;
     check_in = λ p q. elim (h.check_in p q) [
-      | inl w ↦ inl (or_left (N.kept L.sender) (eqb L.sender x) w)
+      | inl w ↦ inl (grind arith)
       | inr w ↦ inr (omega (arith, w, more))
     ];
   }
@@ -74,7 +74,7 @@ module _ {z : Size} {s t : State} (i : ℕ) (o : Ok z s) (c : KeepsCheck z s t i
     stage_le = c.takes.not_ahead;
     data_in = λ a p. absurd (omega (arith, p, c.kind));
     ack_in = λ a p. absurd (omega (arith, p, c.kind));
-    check_in = λ p q. inl (or_right (N.kept x) (eqb x x) (eq-eqb x x refl));
+    check_in = λ p q. inl (grind (arith, eq-eqb x x refl));
   })
 
   -- the call keeps the invariant

@@ -1,6 +1,6 @@
 -- The order that the decisions fix goes one way, and the quorums see to it that no early delivery goes against it.
-use Rattle.std.proofs.Common.{◌≡◌, ℕ, zero, suc, ◌+◌, ◌-◌, ◌<◌, ◌≤◌, true, false, ◌&&◌, sym, ◌∙◌, subst, inl, inr, arith}
-use Rattle.std.proofs.lemmas.Bool.{cases_lt, cases_order, both_ways, and_from, and_parts}
+use Rattle.std.proofs.Common.{◌≡◌, ℕ, zero, suc, ◌+◌, ◌-◌, ◌<◌, ◌≤◌, true, false, ◌&&◌, sym, ◌∙◌, arith}
+use Rattle.std.proofs.lemmas.Bool.{and_from, and_parts}
 use Rattle.protocol.specs.Sets.{Set, ◌∈◌, ◌∉◌, count, ◌∩◌}
 use Rattle.protocol.specs.Lists.{Before}
 use Rattle.protocol.specs.Ring.{Size, State}
@@ -28,62 +28,36 @@ module _ (s : State) where
 
   -- by any number of stages
   up : (j d m : ℕ) → m ∈ past s j → m ∈ past s (d + j)
-  up j zero m h = subst (λ (x : ℕ). m ∈ past s x) none h
-    where
-      none : j ≡ 0 + j
-      none = omega arith
-  up j (suc d) m h = subst (λ (x : ℕ). m ∈ past s x) one (past_more (d + j) m (up j d m h))
-    where
-      one : suc (d + j) ≡ suc d + j
-      one = omega arith
+  up j zero m h = grind arith
+  up j (suc d) m h = grind (arith, past_more (d + j) m (up j d m h))
 
   -- up to any later stage
   pub past_up : (j l m : ℕ) → j ≤ l → m ∈ past s j → m ∈ past s l
-  past_up j l m h i = subst (λ (x : ℕ). m ∈ past s x) e (up j (l - j) m i)
-    where
-      e : (l - j) + j ≡ l
-      e = omega arith
+  past_up j l m h i = grind (arith, up j (l - j) m i)
 
   -- ---- the decided order
 
-  -- of two orders by stages, both cannot hold
-  two_ways : (j l a b : ℕ) → a ∈ past s j → b ∉ past s j → b ∈ past s l → a ∉ past s l → ⊥
-  two_ways j l a b p q u v = elim (cases_lt j l) [
-    | inl h ↦ both_ways (past s l a) v (past_up j l a (omega arith) p)
-    | inr h ↦ both_ways (past s j b) q (past_up l j b h u)
-  ]
-
   -- an order by stages goes against none within a stage
   across : (j l a b : ℕ) → a ∈ past s j → b ∉ past s j → a ∉ past s l → b ∈ past s (suc l) → ⊥
-  across j l a b p q u v = elim (cases_lt l j) [
-    | inl h ↦ both_ways (past s j b) q (past_up (suc l) j b h v)
-    | inr h ↦ both_ways (past s l a) u (past_up j l a h p)
-  ]
+  across j l a b p q u v = grind (arith, past_up (suc l) j b, past_up j l a)
 
   -- a message is new in one stage only
   one_stage : (j l a : ℕ) → a ∉ past s j → a ∈ past s (suc j) → a ∉ past s l → a ∈ past s (suc l) → j ≡ l
-  one_stage j l a p q u v = elim (cases_order j l) [
-    | inl e ↦ e
-    | inr (inl h) ↦ absurd (both_ways (past s l a) u (past_up (suc j) l a h q))
-    | inr (inr h) ↦ absurd (both_ways (past s j a) p (past_up (suc l) j a h v))
-  ]
+  one_stage j l a p q u v = grind (arith, past_up (suc j) l a, past_up (suc l) j a)
 
   -- the decided order goes one way
   precedes_one_way : (a b : ℕ) → Precedes s a b → Precedes s b a → ⊥
-  precedes_one_way a b (earlier j d p q) (earlier l e u v) = two_ways j l a b p q u v
+  precedes_one_way a b (earlier j d p q) (earlier l e u v) = across j l a b p q v (past_more l b u)
   precedes_one_way a b (earlier j d p q) (sooner l e u v w x y) = across j l a b p q v (past_first l b w)
   precedes_one_way a b (earlier j d p q) (lower l e u v w x y z o) = across j l a b p q v (past_second l b y)
   precedes_one_way a b (sooner j d p q p₁ q₁ r) (earlier l e u v) = across l j b a u v q (past_first j a p₁)
   precedes_one_way a b (sooner j d p q p₁ q₁ r) (sooner l e u v w x y) =
-      let o = one_stage j l a p (past_first j a p₁) v (past_second l a y) in
-      both_ways (s.nonconflicting l a) x (subst (λ (i : ℕ). a ∈ s.nonconflicting i) o p₁)
+      grind (arith, one_stage j l a p (past_first j a p₁) v (past_second l a y))
   precedes_one_way a b (sooner j d p q p₁ q₁ r) (lower l e u v w x y z t) =
-      let o = one_stage j l a p (past_first j a p₁) v (past_second l a z) in
-      both_ways (s.nonconflicting l a) x (subst (λ (i : ℕ). a ∈ s.nonconflicting i) o p₁)
+      grind (arith, one_stage j l a p (past_first j a p₁) v (past_second l a z))
   precedes_one_way a b (lower j d p q p₁ q₁ r r₁ t) (earlier l e u v) = across l j b a u v q (past_second j a r)
   precedes_one_way a b (lower j d p q p₁ q₁ r r₁ t) (sooner l e u v w x y) =
-      let o = one_stage l j b u (past_first l b w) q (past_second j b r₁) in
-      both_ways (s.nonconflicting j b) q₁ (subst (λ (i : ℕ). b ∈ s.nonconflicting i) o w)
+      grind (arith, one_stage l j b u (past_first l b w) q (past_second j b r₁))
   precedes_one_way a b (lower j d p q p₁ q₁ r r₁ t) (lower l e u v w x y z o) = omega arith
 
 module _ {z : Size} {s : State} (o : Ok z s) where

@@ -1,6 +1,6 @@
 -- Steps, broadcasts and proposals as functions on states, as the receipts are in Playing.
 use Rattle.std.proofs.Common.{◌≡◌, ℕ, suc, ◌+◌, ◌<◌, ◌≤◌, Bool, true, false, not, ◌&&◌, eqb, ltb, leb, ◌⊎◌, refl, inl, inr, arith}
-use Rattle.std.proofs.lemmas.Bool.{and_left, cases_Bool, both_ways, and_parts, and_from, eqb-true, eq-eqb, ne_eqb, ltb-true}
+use Rattle.std.proofs.lemmas.Bool.{and_left, true_from_ne_false, both_ways, and_parts, and_from, eqb-true, eq-eqb, ne_eqb, ltb-true}
 use Rattle.std.proofs.lemmas.Bool.{leb-true, not-true, cond-true, cond-false}
 use Rattle.protocol.specs.Sets.{Set, ◌∈◌, ◌∉◌, count, only, ◌∖◌}
 use Rattle.protocol.specs.Ring.{Size, State, Node, Letter, data_letter, acknowledgement, check_letter}
@@ -204,15 +204,8 @@ module _ (z : Size) (s : State) (r : ℕ) (r-in : r < z.n) (nobody : (j x : ℕ)
 
   -- and the stages with a proposal are decided
   decides_now : (l : ℕ) → z.need ≤ count z.n (λ x. eqb l j && eqb x r) → l ∈ only j
-  decides_now l h = elim (cases_Bool (eqb l j)) [
-    | inl t ↦ t
-    | inr f ↦ absurd (omega (
-      arith,
-      h,
-      z.need_pos,
-      count_none z.n (λ x. eqb l j && eqb x r) (λ x k. and_left (eqb l j) (eqb x r) f),
-    ))
-  ]
+  decides_now l h = true_from_ne_false (eqb l j) (λ f.
+      omega (arith, h, z.need_pos, count_none z.n (λ x. eqb l j && eqb x r) (λ x k. and_left (eqb l j) (eqb x r) f)))
 
   -- a stage that was decided or is another is not this one
   other_stage : (l : ℕ) → (l ∈ s.decided) ⊎ (l ≡ j → ⊥) → eqb l j ≡ false

@@ -1,6 +1,6 @@
 -- The promises, each from the invariant; and the theorem over every run.
 use Rattle.std.proofs.Common.{◌≡◌, ℕ, zero, suc, ◌+◌, ◌*◌, ◌<◌, ◌≤◌, true, ◌||◌, ◌⊎◌, refl, ◌∙◌, inl, inr, arith}
-use Rattle.std.proofs.lemmas.Bool.{cases_Bool, cases_lt, both_ways}
+use Rattle.std.proofs.lemmas.Bool.{cases_lt, both_ways, false_from_ne_true}
 use Rattle.protocol.specs.Sets.{Set, ◌∈◌, count}
 use Rattle.protocol.specs.Ring.{Size, State, check_letter}
 use Rattle.protocol.specs.Promises.{ConflictsInOneOrder, SameSheetsSameResult, TwoMessagesAStage}
@@ -79,13 +79,7 @@ module _ {z : Size} {s : State} (o : Ok z s) where
 
   -- only a node that has proposed stands among the proposers of its stage
   pub awaits_the_proposal : ChooserAwaitsTheProposal z s
-  awaits_the_proposal r l p = elim (cases_Bool (s.proposers (s.node r).stage r)) [
-    | inl h ↦ elim ((o.nodes r l).closing.proposed_when (s.node r).stage h) [
-      | inl w ↦ absurd (omega (arith, w))
-      | inr w ↦ absurd (both_ways (s.node r).proposed p w.2)
-    ]
-    | inr h ↦ h
-  ]
+  awaits_the_proposal r l p = grind (arith, (o.nodes r l).closing.proposed_when (s.node r).stage)
 
   -- ---- runs without a conflict: there is no cause to close a stage
   module _ (free : FreeOfConflict s) where
@@ -109,19 +103,15 @@ module _ {z : Size} {s : State} (o : Ok z s) where
     pub never_closed : NeverClosed z s
     never_closed = record {
       no_check = no_check;
-      gathering = λ r l. elim (cases_Bool (s.node r).closing) [
-        | inl c ↦ absurd (not_closed r (s.node r).stage l (o.nodes r l).stage.first (inr (refl, c)))
-        | inr c ↦ c
-      ];
+      gathering = λ r l. false_from_ne_true (s.node r).closing
+          (λ c. not_closed r (s.node r).stage l (o.nodes r l).stage.first (inr (refl, c)));
       first_stage = λ r l. elim (cases_lt 1 (s.node r).stage) [
         | inl h ↦ absurd (not_closed r 1 l (omega arith) (inl h))
         | inr h ↦ omega (arith, h, (o.nodes r l).stage.first)
       ];
-      no_proposal = λ j r. elim (cases_Bool (s.proposers j r)) [
-        | inl h ↦ absurd (let p = o.chooser.proposal j r (o.chooser.proposer_in j r h) h in
-            no_cause j (λ m. s.proposal_nonconflicting j r m || s.proposal_conflicting j r m) p.known p.cause)
-        | inr h ↦ h
-      ];
+      no_proposal = λ j r. false_from_ne_true (s.proposers j r) (λ h.
+          let p = o.chooser.proposal j r (o.chooser.proposer_in j r h) h in
+          no_cause j (λ m. s.proposal_nonconflicting j r m || s.proposal_conflicting j r m) p.known p.cause);
     }
 
 -- every run comes to a sound state

@@ -1,6 +1,6 @@
 -- A node receives data of a new message: its own, which it need not relay, or another's, which it sends on.
 use Rattle.std.proofs.Common.{◌≡◌, ℕ, ◌<◌, eqb, sym, refl, subst, inl, inr, arith}
-use Rattle.std.proofs.lemmas.Bool.{or_left, or_right, or_cases, eqb-true, eq-eqb}
+use Rattle.std.proofs.lemmas.Bool.{or_cases, eqb-true, eq-eqb}
 use Rattle.protocol.specs.Sets.{◌∈◌, only}
 use Rattle.protocol.specs.Ring.{Size, State, Node, Letter, data_letter, taken}
 use Rattle.protocol.specs.Nodes.{after_data}
@@ -37,17 +37,14 @@ module _ {z : Size} {s t : State} (o : Ok z s) (i m : ℕ) (k : Takes s t i) (ki
 
   -- what was received before is received still
   wider : (a : ℕ) → a ∈ N.received → a ∈ N'.received
-  wider a h = or_left (N.received a) (eqb a m) h
+  wider a h = grind arith
 
   module _ {Come : Letter → Type 0} (e : Continues s t) (mail : Mail z s t (Turned s i taken) Come)
       (data-only : (L : Letter) → Come L → L.kind ≡ data_letter) (told : Told t r m) where
     -- the part on what it received
     pending : PendingOk t r N.stage N'.received N.delivered N.pending
     pending = let b = pending_up e ok.pending in record {
-      received_known = λ a h. elim (or_cases (N.received a) (eqb a m) h) [
-        | inl p ↦ b.received_known a p
-        | inr p ↦ omega (arith, eqb-true a m p, m_known, e.messages_le)
-      ];
+      received_known = λ a h. grind (arith, b.received_known a, eqb-true a m, m_known, e.messages_le);
       received_told = λ a h. elim (or_cases (N.received a) (eqb a m) h) [
         | inl p ↦ b.received_told a p
         | inr p ↦ subst (λ (y : ℕ). Told t r y) (sym (eqb-true a m p)) told
@@ -81,7 +78,7 @@ module _ {z : Size} {s t : State} (o : Ok z s) (i m : ℕ) (k : Takes s t i) (ki
     taken_now : (A B : Letter) → Turned s i taken A B → B.receiver ≡ r → B.mark ≡ taken → TakenBy z N' B
     taken_now A B h f v = subst (λ (L : Letter). TakenBy z N' L) (sym (receiving.turned_is o i k A B h)) (record {
       stage_le = k.not_ahead;
-      data_in = λ a p q. or_right (N.received a) (eqb a m) (carry a message q);
+      data_in = λ a p q. grind (arith, carry a message q);
       ack_in = λ a p. absurd (omega (arith, p, kind));
       check_in = λ p. absurd (omega (arith, p, kind));
     })

@@ -2,7 +2,7 @@
 -- The lowest stage of the live nodes cannot be closing, or some live node could go on; so all live nodes gather in
 -- one stage, have the same messages, have acknowledged them to one another, and have delivered them.
 use Rattle.std.proofs.Common.{◌≡◌, ℕ, suc, ◌<◌, ◌≤◌, true, false, ◌⊎◌, sym, refl, ap, ◌∙◌, subst, inl, inr, arith}
-use Rattle.std.proofs.lemmas.Bool.{cases_Bool, cases_lt, both_ways}
+use Rattle.std.proofs.lemmas.Bool.{cases_Bool, cases_lt, both_ways, true_from_ne_false, false_from_ne_true}
 use Rattle.protocol.specs.Sets.{◌∈◌, ◌∉◌, count}
 use Rattle.protocol.specs.Lists.{Mem}
 use Rattle.protocol.specs.Ring.{Size, State, data_letter, acknowledgement, check_letter, travelling, taken}
@@ -110,7 +110,7 @@ module _ {z : Size} {s : State} (o : Ok z s) (q : Quiet z s) where
 
       -- then every live node of stage K is closing, since it has received two messages that conflict
       closes : (y : ℕ) → Alive z s y → (s.node y).stage ≡ K → (s.node y).closing ≡ true
-      closes y a e = elim (cases_Bool (s.node y).closing) [ inl t ↦ t | inr f ↦ absurd (not_open f) ]
+      closes y a e = true_from_ne_false (s.node y).closing not_open
         where
           acked : (s.node y).closing ≡ false → (m : ℕ) → m ∈ (s.node x).received → m ∉ past s K → m ∈ (s.node y).pending
           acked f m h n = q.no_gathering y m a.0 a.1 f (same_received x y m x-alive a h) (delivered_low y m a e ∙ n)
@@ -146,19 +146,13 @@ module _ {z : Size} {s : State} (o : Ok z s) (q : Quiet z s) where
 
       -- and has proposed
       proposed : (y : ℕ) → Alive z s y → (s.node y).stage ≡ K → (s.node y).proposed ≡ true
-      proposed y a e = elim (cases_Bool (s.node y).proposed) [
-        | inl t ↦ t
-        | inr f ↦ go (q.no_proposal y a.0 a.1 (closes y a e) f)
-      ]
-        where
-          go : (count z.n (s.node y).kept < z.chk) ⊎ ((32 < (s.node y).stage) ⊎ (y ∈ s.proposers (s.node y).stage))
-              → (s.node y).proposed ≡ true
-          go (inl h) = absurd (omega (arith, enough_kept y a e))
-          go (inr (inl h)) = absurd (omega (arith, served, e))
-          go (inr (inr h)) = elim ((o.nodes y a.0).closing.proposed_when (s.node y).stage h) [
-            | inl w ↦ absurd (omega arith)
-            | inr w ↦ w.2
-          ]
+      proposed y a e = grind (
+        arith,
+        q.no_proposal y a.0 a.1 (closes y a e),
+        enough_kept y a e,
+        served,
+        (o.nodes y a.0).closing.proposed_when (s.node y).stage,
+      )
 
       -- so the stage is undecided, or one of them could settle it
       undecided : K ∉ s.decided
@@ -197,11 +191,8 @@ module _ {z : Size} {s : State} (o : Ok z s) (q : Quiet z s) where
 
     -- and none is closing
     gathers : (y : ℕ) → Alive z s y → (s.node y).closing ≡ false
-    gathers y a = elim (cases_Bool (s.node y).closing) [
-      | inl t ↦ absurd
-          (let c = (o.nodes y a.0).closing.closed K KFirst (inr (sym (stage_is y a), t)) in impossible y a c.0 c.1)
-      | inr f ↦ f
-    ]
+    gathers y a = false_from_ne_true (s.node y).closing (λ t.
+        let c = (o.nodes y a.0).closing.closed K KFirst (inr (sym (stage_is y a), t)) in impossible y a c.0 c.1)
 
     -- stage K is undecided: a decision rests on the check of some live node
     open_stage : K ∈ s.decided → ⊥

@@ -1,5 +1,5 @@
 -- A closing node settles its stage by the decision: its sheet goes on as the decided order says.
-use Rattle.std.proofs.Common.{◌≡◌, ℕ, suc, ◌<◌, Bool, true, false, ◌||◌, ◌⊎◌, ◌++◌, sym, refl, ap, ◌∙◌, subst, inl}
+use Rattle.std.proofs.Common.{◌≡◌, ℕ, suc, ◌<◌, Bool, true, false, ◌||◌, ◌⊎◌, ◌++◌, sym, refl, ap, ◌∙◌, inl}
 use Rattle.std.proofs.Common.{inr, arith}
 use Rattle.std.proofs.lemmas.Bool.{cases_Bool, cases_eq, both_ways}
 use Rattle.std.proofs.lemmas.Bool.{false≢true}
@@ -129,10 +129,7 @@ module _ {z : Size} {s t : State} (r : ℕ) (o : Ok z s) (c : Settles z s t r) w
 
   -- its stage is settled too
   settled : Settled s (suc N.stage)
-  settled i l h = elim (cases_eq i N.stage) [
-    | inl p ↦ subst (λ (j : ℕ). j ∈ s.decided) (sym p) c.decided
-    | inr d ↦ ok.stage.settled i l (omega (arith, h, d))
-  ]
+  settled i l h = grind (arith, cases_eq i N.stage, c.decided, ok.stage.settled i l)
 
   -- the part on the stage
   stage : StageOk t (suc N.stage) N'.delivered
@@ -303,7 +300,7 @@ module _ {z : Size} {s t : State} (r : ℕ) (o : Ok z s) (c : Settles z s t r) w
       ]
       | inr w ↦ absurd (false≢true w.1)
     ];
-    proposed_when = λ j h. elim (b.proposed_when j h) [ inl w ↦ inl (omega (arith, w)) | inr w ↦ inl (omega (arith, w.0)) ];
+    proposed_when = λ j h. inl (grind (arith, b.proposed_when j h));
     proposed_stands = λ h. absurd (false≢true h);
   }
 
@@ -312,7 +309,7 @@ module _ {z : Size} {s t : State} (r : ℕ) (o : Ok z s) (c : Settles z s t r) w
   sent_before L h = record {
     ack_stage = λ k. omega (arith, h.ack_stage k);
     ack_pending = λ m k p q. absurd (omega (arith, h.ack_stage k, p));
-    check_stage = λ k. elim (h.check_stage k) [ inl w ↦ inl (omega (arith, w)) | inr w ↦ inl (omega (arith, w.0)) ];
+    check_stage = λ k. inl (grind (arith, h.check_stage k));
     check_cause = h.check_cause;
     check_settled = h.check_settled;
   }

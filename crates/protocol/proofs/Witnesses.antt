@@ -1,6 +1,6 @@
 -- Three runs, written down call by call.
-use Rattle.std.proofs.Common.{◌≡◌, ℕ, zero, suc, ◌<◌, Bool, true, false, not, ◌||◌, eqb, sym, refl, ap, ◌∙◌, inl, inr, arith}
-use Rattle.std.proofs.lemmas.Bool.{cases_eq, eq-eqb, ne_eqb, and_from, false≢true}
+use Rattle.std.proofs.Common.{◌≡◌, ℕ, zero, suc, ◌<◌, Bool, true, false, not, eqb, refl, ap, arith}
+use Rattle.std.proofs.lemmas.Bool.{eq-eqb, eqb-true, false≢true}
 use Rattle.protocol.specs.Sets.{◌∈◌, count}
 use Rattle.protocol.specs.Lists.{ascending}
 use Rattle.protocol.specs.Ring.{Size, State, travelling}
@@ -57,10 +57,7 @@ always a b = not (eqb a b)
 
 -- from both sides
 always_sides : (a b : ℕ) → always a b ≡ always b a
-always_sides a b = elim (cases_eq a b) [
-  | inl e ↦ ap not (eq-eqb a b e ∙ sym (eq-eqb b a (sym e)))
-  | inr d ↦ ap not (ne_eqb a b d ∙ sym (ne_eqb b a (λ e. d (sym e))))
-]
+always_sides a b = grind (arith, eqb-true a b, eqb-true b a, eq-eqb a b, eq-eqb b a)
 
 -- but no message with itself
 always_itself : (a : ℕ) → always a a ≡ false
@@ -108,7 +105,7 @@ early_quiet = record {
     both_taken (suc (suc i)) l m = omega arith
 
     pending : (r m : ℕ) → r < 1 → m ∈ (early₄.node r).received → m ∈ (early₄.node r).pending
-    pending zero m l h = and_from (false || eqb m 0) true h refl
+    pending zero m l h = grind arith
     pending (suc r) m l h = absurd (omega arith)
 
     gathering : (r : ℕ) → r < 1 → (early₄.node r).closing ≡ true → ⊥
