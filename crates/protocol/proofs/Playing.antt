@@ -2,7 +2,7 @@
 -- test, which a written run passes by computing.
 use Rattle.std.proofs.Common.{◌≡◌, ℕ, ◌+◌, ◌-◌, ◌<◌, ◌≤◌, Bool, true, false, cond, not, ◌&&◌, eqb, ltb, leb, refl, ap, ◌∙◌, arith}
 use Rattle.std.proofs.lemmas.Bool.{and_parts, eqb-true, eqb-false, eq-eqb, ne_eqb, ltb-true, lt-ltb, le-ltb, leb-true}
-use Rattle.std.proofs.lemmas.Bool.{not-true, cond-true, cond-false}
+use Rattle.std.proofs.lemmas.Bool.{cond-true, cond-false}
 use Rattle.protocol.specs.Sets.{Set, count, none, only}
 use Rattle.protocol.specs.Ring.{Size, State, Node, Letter, data_letter, acknowledgement, check_letter, travelling, taken}
 use Rattle.protocol.specs.Setters.{with_check}
@@ -138,25 +138,20 @@ ready s i =
 module _ (s : State) (i : ℕ) (h : ready s i ≡ true) where
   -- it was sent
   place : i < s.sent
-  place = ltb-true i s.sent (and_parts _ _ (and_parts (ltb i s.sent && eqb (s.letter i).mark travelling) _ h).0).0
+  place = ltb-true i s.sent (grind arith)
 
   -- it is taken, whatever becomes of the nodes
   takes : (n : ℕ) (f : ℕ → Letter) (g : ℕ → Node) → Marks s (with_post n f g s) i taken → Takes s (with_post n f g s) i
-  takes n f g m =
-      let p = and_parts (ltb i s.sent && eqb (s.letter i).mark travelling)
-      (s.live (s.letter i).receiver && leb (s.letter i).stage (taker s i).stage) h in
-      let q = and_parts (ltb i s.sent) (eqb (s.letter i).mark travelling) p.0 in
-      let u = and_parts (s.live (s.letter i).receiver) (leb (s.letter i).stage (taker s i).stage) p.1 in
-      record {
-        place = ltb-true i s.sent q.0;
-        travels = eqb-true (s.letter i).mark travelling q.1;
-        alive = u.0;
-        not_ahead = leb-true (s.letter i).stage (taker s i).stage u.1;
-        marks = m;
-        book = same_book s n f g;
-        chooser = same_chooser s n f g;
-        live = refl;
-      }
+  takes n f g m = record {
+    place = place;
+    travels = eqb-true (s.letter i).mark travelling (grind arith);
+    alive = grind arith;
+    not_ahead = leb-true (s.letter i).stage (taker s i).stage (grind arith);
+    marks = m;
+    book = same_book s n f g;
+    chooser = same_chooser s n f g;
+    live = refl;
+  }
 
   -- no letter is sent
   marks : (g : ℕ → Node) → Marks s (with_post s.sent (took s i) g s) i taken
@@ -175,16 +170,14 @@ pub plays_own : (z : Size) (s : State) (i m : ℕ)
     (not ((taker s i).received m) && eqb (s.broadcaster m) (s.letter i).receiver))) ≡ true
     → (s.letter i).set ≡ only m → Call z s (own_data i m s)
 plays_own z s i m h e =
-    let p = and_parts (ready s i) _ h in
-    let q = and_parts (eqb (s.letter i).kind data_letter) _ p.1 in
-    let u = and_parts (not ((taker s i).received m)) _ q.1 in
+    let p : ready s i ≡ true = (and_parts (ready s i) _ h).0 in
     let g = update s.node (s.letter i).receiver (after_data m (taker s i)) in
     receives_own i m (record {
-      takes = takes s i p.0 s.sent (took s i) g (marks s i p.0 g);
-      kind = eqb-true (s.letter i).kind data_letter q.0;
+      takes = takes s i p s.sent (took s i) g (marks s i p g);
+      kind = eqb-true (s.letter i).kind data_letter (grind arith);
       message = e;
-      new = not-true ((taker s i).received m) u.0;
-      own = eqb-true (s.broadcaster m) (s.letter i).receiver u.1;
+      new = grind arith;
+      own = eqb-true (s.broadcaster m) (s.letter i).receiver (grind arith);
       silent = refl;
       becomes = becomes z s (own_data i m s) (s.letter i).receiver (after_data m (taker s i)) refl;
     })
@@ -201,23 +194,21 @@ pub plays_relay : (z : Size) (s : State) (i m : ℕ)
     && (not ((taker s i).received m) && not (eqb (s.broadcaster m) (s.letter i).receiver)))) ≡ true
     → (s.letter i).set ≡ only m → Call z s (relayed z i m s)
 plays_relay z s i m h e =
-    let p = and_parts (ready s i) _ h in
-    let q = and_parts (eqb (s.letter i).kind data_letter) _ p.1 in
-    let u = and_parts (not ((taker s i).received m)) _ q.1 in
+    let p : ready s i ≡ true = (and_parts (ready s i) _ h).0 in
     let r = (s.letter i).receiver in
     let f = posted s (took s i) r data_letter 0 (only m) in
     let g = update s.node r (after_data m (taker s i)) in
     relays i m (record {
-      takes = takes s i p.0 (s.sent + z.n) f g (record {
-        here = append_old s.sent (took s i) (λ y. new_letter r y data_letter 0 (only m)) i (place s i p.0)
+      takes = takes s i p (s.sent + z.n) f g (record {
+        here = append_old s.sent (took s i) (λ y. new_letter r y data_letter 0 (only m)) i (place s i p)
             ∙ update_here s.letter i (marked (s.letter i) taken);
         others = λ l k d. append_old s.sent (took s i) (λ y. new_letter r y data_letter 0 (only m)) l k
             ∙ update_else s.letter i (marked (s.letter i) taken) l d;
       });
-      kind = eqb-true (s.letter i).kind data_letter q.0;
+      kind = eqb-true (s.letter i).kind data_letter (grind arith);
       message = e;
-      new = not-true ((taker s i).received m) u.0;
-      not_own = eqb-false (s.broadcaster m) r (not-true (eqb (s.broadcaster m) r) u.1);
+      new = grind arith;
+      not_own = eqb-false (s.broadcaster m) r (grind arith);
       sends = record {
         places = refl;
         new = λ y l. append_new s.sent (took s i) (λ y. new_letter r y data_letter 0 (only m)) y;
@@ -237,16 +228,14 @@ pub plays_hear : (z : Size) (s : State) (i : ℕ)
     && (eqb (s.letter i).stage (taker s i).stage && not (taker s i).closing))) ≡ true
     → Call z s (heard_one z i s)
 plays_hear z s i h =
-    let p = and_parts (ready s i) _ h in
-    let q = and_parts (eqb (s.letter i).kind acknowledgement) _ p.1 in
-    let u = and_parts (eqb (s.letter i).stage (taker s i).stage) _ q.1 in
+    let p : ready s i ≡ true = (and_parts (ready s i) _ h).0 in
     let N = after_hearing z (s.letter i).sender (s.letter i).set (taker s i) in
     let g = update s.node (s.letter i).receiver N in
     hears i (record {
-      takes = takes s i p.0 s.sent (took s i) g (marks s i p.0 g);
-      kind = eqb-true (s.letter i).kind acknowledgement q.0;
-      stage = eqb-true (s.letter i).stage (taker s i).stage u.0;
-      gathering = not-true (taker s i).closing u.1;
+      takes = takes s i p s.sent (took s i) g (marks s i p g);
+      kind = eqb-true (s.letter i).kind acknowledgement (grind arith);
+      stage = eqb-true (s.letter i).stage (taker s i).stage (grind arith);
+      gathering = grind arith;
       silent = refl;
       becomes = becomes z s (heard_one z i s) (s.letter i).receiver N refl;
     })
@@ -263,18 +252,15 @@ pub plays_keep : (z : Size) (s : State) (i : ℕ)
     && (ltb (count z.n (taker s i).kept) z.chk && not ((taker s i).kept (s.letter i).sender))))) ≡ true
     → Call z s (kept_one i s)
 plays_keep z s i h =
-    let p = and_parts (ready s i) _ h in
-    let q = and_parts (eqb (s.letter i).kind check_letter) _ p.1 in
-    let u = and_parts (eqb (s.letter i).stage (taker s i).stage) _ q.1 in
-    let v = and_parts (ltb (count z.n (taker s i).kept) z.chk) _ u.1 in
+    let p : ready s i ≡ true = (and_parts (ready s i) _ h).0 in
     let N = with_check (s.letter i).sender (s.letter i).set (taker s i) in
     let g = update s.node (s.letter i).receiver N in
     keeps_check i (record {
-      takes = takes s i p.0 s.sent (took s i) g (marks s i p.0 g);
-      kind = eqb-true (s.letter i).kind check_letter q.0;
-      stage = eqb-true (s.letter i).stage (taker s i).stage u.0;
-      few = ltb-true (count z.n (taker s i).kept) z.chk v.0;
-      new = not-true ((taker s i).kept (s.letter i).sender) v.1;
+      takes = takes s i p s.sent (took s i) g (marks s i p g);
+      kind = eqb-true (s.letter i).kind check_letter (grind arith);
+      stage = eqb-true (s.letter i).stage (taker s i).stage (grind arith);
+      few = ltb-true (count z.n (taker s i).kept) z.chk (grind arith);
+      new = grind arith;
       silent = refl;
       becomes = becomes z s (kept_one i s) (s.letter i).receiver N refl;
     })

@@ -1,7 +1,7 @@
 -- Steps, broadcasts and proposals as functions on states, as the receipts are in Playing.
 use Rattle.std.proofs.Common.{◌≡◌, ℕ, suc, ◌+◌, ◌<◌, ◌≤◌, Bool, true, false, not, ◌&&◌, eqb, ltb, leb, ◌⊎◌, refl, inl, inr, arith}
 use Rattle.std.proofs.lemmas.Bool.{and_left, true_from_ne_false, both_ways, and_parts, and_from, eqb-true, eq-eqb, ne_eqb, ltb-true}
-use Rattle.std.proofs.lemmas.Bool.{leb-true, not-true, cond-true, cond-false}
+use Rattle.std.proofs.lemmas.Bool.{leb-true, cond-true, cond-false}
 use Rattle.protocol.specs.Sets.{Set, ◌∈◌, ◌∉◌, count, only, ◌∖◌}
 use Rattle.protocol.specs.Ring.{Size, State, Node, Letter, data_letter, acknowledgement, check_letter}
 use Rattle.protocol.specs.Setters.{with_closing, with_proposed}
@@ -21,9 +21,9 @@ able z s r = ltb r z.n && s.live r
 module _ (z : Size) (s : State) (r : ℕ) (h : able z s r ≡ true) where
   -- a step of such a node
   steps : (n : ℕ) (f : ℕ → Letter) (g : ℕ → Node) → SameLetters s (with_post n f g s) → Steps z s (with_post n f g s) r
-  steps n f g k = let p = and_parts (ltb r z.n) (s.live r) h in record {
-    in_ring = ltb-true r z.n p.0;
-    alive = p.1;
+  steps n f g k = record {
+    in_ring = ltb-true r z.n (grind arith);
+    alive = grind arith;
     letters = k;
     book = same_book s n f g;
     live = refl;
@@ -39,14 +39,14 @@ acknowledged z r s =
 pub plays_acknowledge : (z : Size) (s : State) (r : ℕ) → (able z s r && not (s.node r).closing) ≡ true
     → ((a b : ℕ) → s.conflict a b ≡ false) → Call z s (acknowledged z r s)
 plays_acknowledge z s r h free =
-    let p = and_parts (able z s r) (not (s.node r).closing) h in
+    let p : able z s r ≡ true = grind arith in
     let S = undelivered (s.node r) in
     let new : ℕ → Letter = λ y. new_letter r y acknowledgement (s.node r).stage S in
     let f = posted s s.letter r acknowledgement (s.node r).stage S in
     let g = update s.node r (after_acknowledging (s.node r)) in
     acknowledges r (record {
-      steps = steps z s r p.0 (s.sent + z.n) f g (λ i l. append_old s.sent s.letter new i l);
-      gathering = not-true (s.node r).closing p.1;
+      steps = steps z s r p (s.sent + z.n) f g (λ i l. append_old s.sent s.letter new i l);
+      gathering = grind arith;
       free = λ a b u v. free a b;
       sends = record { places = refl; new = λ y l. append_new s.sent s.letter new y };
       becomes = becomes z s (acknowledged z r s) r (after_acknowledging (s.node r)) refl;
@@ -65,19 +65,16 @@ pub plays_close : (z : Size) (s : State) (r a b : ℕ)
     (not (s.node r).closing && (s.conflict a b && (undelivered (s.node r) a && undelivered (s.node r) b)))) ≡ true
     → Call z s (closed z r s)
 plays_close z s r a b h =
-    let p = and_parts (able z s r) _ h in
-    let q = and_parts (not (s.node r).closing) _ p.1 in
-    let u = and_parts (s.conflict a b) _ q.1 in
-    let v = and_parts (undelivered (s.node r) a) (undelivered (s.node r) b) u.1 in
+    let p : able z s r ≡ true = grind arith in
     let new : ℕ → Letter = λ y. new_letter r y check_letter (s.node r).stage (s.node r).pending in
     let f = posted s s.letter r check_letter (s.node r).stage (s.node r).pending in
     let g = update s.node r (with_closing (s.node r)) in
     closes r a b (record {
-      steps = steps z s r p.0 (s.sent + z.n) f g (λ i l. append_old s.sent s.letter new i l);
-      gathering = not-true (s.node r).closing q.0;
-      conflict = u.0;
-      one = v.0;
-      other = v.1;
+      steps = steps z s r p (s.sent + z.n) f g (λ i l. append_old s.sent s.letter new i l);
+      gathering = grind arith;
+      conflict = grind arith;
+      one = grind arith;
+      other = grind arith;
       sends = record { places = refl; new = λ y l. append_new s.sent s.letter new y };
       becomes = becomes z s (closed z r s) r (with_closing (s.node r)) refl;
       chooser = same_chooser s (s.sent + z.n) f g;
@@ -94,16 +91,14 @@ pub plays_settle : (z : Size) (s : State) (r : ℕ)
     → (able z s r && ((s.node r).closing && ((s.node r).proposed && s.decided (s.node r).stage))) ≡ true → Call z s
     (settled r s)
 plays_settle z s r h =
-    let p = and_parts (able z s r) _ h in
-    let q = and_parts (s.node r).closing _ p.1 in
-    let u = and_parts (s.node r).proposed _ q.1 in
+    let p : able z s r ≡ true = grind arith in
     let N = after_settling (s.nonconflicting (s.node r).stage) (s.conflicting (s.node r).stage) (s.node r) in
     let g = update s.node r N in
     settles r (record {
-      steps = steps z s r p.0 s.sent s.letter g (λ i l. refl);
-      closing = q.0;
-      proposed = u.0;
-      decided = u.1;
+      steps = steps z s r p s.sent s.letter g (λ i l. refl);
+      closing = grind arith;
+      proposed = grind arith;
+      decided = grind arith;
       becomes = becomes z s (settled r s) r N refl;
       chooser = same_chooser s s.sent s.letter g;
       silent = refl;
@@ -131,13 +126,11 @@ broadcast_by z r s = record {
 pub plays_broadcast : (z : Size) (s : State) (r : ℕ) → (able z s r && ltb s.messages 64) ≡ true
     → ((a b : ℕ) → s.conflict a b ≡ s.conflict b a) → ((a : ℕ) → s.conflict a a ≡ false) → Call z s (broadcast_by z r s)
 plays_broadcast z s r h sides itself =
-    let p = and_parts (able z s r) (ltb s.messages 64) h in
-    let q = and_parts (ltb r z.n) (s.live r) p.0 in
     let new : ℕ → Letter = λ y. new_letter r y data_letter 0 (only s.messages) in
     broadcasts r (record {
-      in_ring = ltb-true r z.n q.0;
-      alive = q.1;
-      room = ltb-true s.messages 64 p.1;
+      in_ring = ltb-true r z.n (grind arith);
+      alive = grind arith;
+      room = ltb-true s.messages 64 (grind arith);
       messages = refl;
       broadcaster = update_here s.broadcaster s.messages r;
       broadcaster_kept = λ m l. update_else s.broadcaster s.messages r m (λ e. omega (arith, e, l));
@@ -235,22 +228,18 @@ pub plays_propose : (z : Size) (s : State) (r : ℕ)
     → (able z s r && ((s.node r).closing && (not (s.node r).proposed && leb z.chk (count z.n (s.node r).kept)))) ≡ true
     → ((j x : ℕ) → x ∉ s.proposers j) → ((j : ℕ) → j ∉ s.decided) → Call z s (proposed_by z r s)
 plays_propose z s r h nobody undecided =
-    let p = and_parts (able z s r) _ h in
-    let w = and_parts (ltb r z.n) (s.live r) p.0 in
-    let q = and_parts (s.node r).closing _ p.1 in
-    let u = and_parts (not (s.node r).proposed) _ q.1 in
-    let r-in : r < z.n = ltb-true r z.n w.0 in
+    let r-in : r < z.n = ltb-true r z.n (grind arith) in
     proposes r (record {
       steps = record {
         in_ring = r-in;
-        alive = w.1;
+        alive = grind arith;
         letters = λ i l. refl;
         book = record { messages = refl; conflict = refl; broadcaster = refl };
         live = refl;
       };
-      closing = q.0;
-      not_yet = not-true (s.node r).proposed u.0;
-      enough = leb-true z.chk (count z.n (s.node r).kept) u.1;
+      closing = grind arith;
+      not_yet = grind arith;
+      enough = leb-true z.chk (count z.n (s.node r).kept) (grind arith);
       hands_in = handed_in z s r r-in nobody undecided;
       becomes = becomes z s (proposed_by z r s) r (with_proposed (s.node r)) refl;
       silent = refl;
