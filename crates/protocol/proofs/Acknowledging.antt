@@ -1,6 +1,5 @@
 -- A gathering node acknowledges what it has not delivered.
 use Rattle.std.proofs.Common.{◌≡◌, ℕ, ◌<◌, Bool, false, sym, refl, ap, ◌∙◌, subst, inl, inr, arith}
-use Rattle.std.proofs.lemmas.Bool.{both_ways}
 use Rattle.protocol.specs.Sets.{Set, ◌∈◌, ◌∉◌}
 use Rattle.protocol.specs.Ring.{Size, State, Node, Letter, acknowledgement, check_letter}
 use Rattle.protocol.specs.Nodes.{undelivered, after_acknowledging}
@@ -75,10 +74,7 @@ module _ {z : Size} {s t : State} (r : ℕ) (o : Ok z s) (c : Acknowledges z s t
 
   -- a gathering node has sent no check of its stage
   no_check : (L : Letter) → SentBy s N L → L.kind ≡ check_letter → L.stage ≡ N.stage → ⊥
-  no_check L h k p = elim (h.check_stage k) [
-    | inl w ↦ omega (arith, w, p)
-    | inr w ↦ both_ways N.closing c.gathering w.1
-  ]
+  no_check L h k p = grind (arith, h.check_stage k, c.gathering)
 
   -- what it acknowledged before in this stage it acknowledges again
   older : (i m : ℕ) → i < s.sent → (s.letter i).kind ≡ acknowledgement → (s.letter i).sender ≡ r → (s.letter i).stage ≡ N.stage
@@ -139,7 +135,7 @@ module _ {z : Size} {s t : State} (r : ℕ) (o : Ok z s) (c : Acknowledges z s t
   sent_before L h = record {
     ack_stage = h.ack_stage;
     ack_pending = λ m k p q. pending_still m (h.ack_pending m k p q);
-    check_stage = λ k. elim (h.check_stage k) [ inl w ↦ inl w | inr w ↦ absurd (both_ways N.closing c.gathering w.1) ];
+    check_stage = λ k. grind (arith, h.check_stage k, c.gathering);
     check_cause = h.check_cause;
     check_settled = h.check_settled;
   }

@@ -1,6 +1,6 @@
 -- A gathering node hears an acknowledgement of its stage, and delivers early what now has a quorum.
 use Rattle.std.proofs.Common.{◌≡◌, ℕ, ◌<◌, ◌≤◌, true, false, ◌&&◌, eqb, ◌⊎◌, sym, refl, ◌∙◌, subst, inl, inr, arith}
-use Rattle.std.proofs.lemmas.Bool.{cases_Bool, both_ways, or_left, or_cases, and_parts, eqb-true, eq-eqb}
+use Rattle.std.proofs.lemmas.Bool.{cases_Bool, both_ways, or_cases, and_parts, eqb-true, eq-eqb}
 use Rattle.std.proofs.lemmas.Bool.{leb-true, le-leb}
 use Rattle.protocol.specs.Sets.{Set, ◌∈◌, ◌∉◌, count}
 use Rattle.protocol.specs.Lists.{Mem, Before, ascending}
@@ -89,10 +89,8 @@ module _ {z : Size} {s t : State} (i : ℕ) (o : Ok z s) (c : Hears z s t i) whe
 
   -- what it delivered early has a quorum
   early_heard : (m : ℕ) → m ∈ N'.early → z.ack ≤ count z.n (N'.heard m)
-  early_heard m h = elim (or_cases (N.early m) (D m) h) [
-    | inl p ↦ omega (arith, ok.early.early_heard m p, count_mono z.n (N.heard m) (N'.heard m) (λ y l q. more m y q))
-    | inr p ↦ (fresh m p).0
-  ]
+  early_heard m h =
+      grind (arith, ok.early.early_heard m, fresh m, count_mono z.n (N.heard m) (N'.heard m) (λ y l q. more m y q))
 
   -- what a quorum acknowledged was broadcast
   quorum_known : (m : ℕ) → z.ack ≤ count z.n (N'.heard m) → m < t.messages
@@ -100,10 +98,6 @@ module _ {z : Size} {s t : State} (i : ℕ) (o : Ok z s) (c : Hears z s t i) whe
       let w = count_one z.n (N'.heard m) (omega (arith, h, z.meet, z.chk_le)) in
       let a = heard_from m w.0 w.1 w.2 in
       ((receiving.post o i c.takes c.silent).each a.0 a.1.place).unspoilt.known m a.2
-
-  -- messages are below 64
-  small : (m : ℕ) → m < t.messages → m < 64
-  small m h = omega (arith, h, c.takes.book.messages, o.book.messages_le)
 
   -- no two early messages conflict
   early_free : (a b : ℕ) → a ∈ N'.early → b ∈ N'.early → t.conflict a b ≡ false
@@ -116,14 +110,13 @@ module _ {z : Size} {s t : State} (i : ℕ) (o : Ok z s) (c : Hears z s t i) whe
   early = record {
     heard_from = heard_from;
     early_heard = early_heard;
-    early_new = λ m h. elim (or_cases (N.early m) (D m) h) [ inl p ↦ ok.early.early_new m p | inr p ↦ (fresh m p).1 ];
-    heard_early = λ m g h. elim (cases_Bool (N.delivered m)) [
-      | inl p ↦ inl p
-      | inr p ↦ inr (elim (cases_Bool (N.early m)) [
-        | inl q ↦ grind (arith, q)
-        | inr q ↦ grind (arith, p, q, le-leb z.ack (count z.n (N'.heard m)) h)
-      ])
-    ];
+    early_new = λ m h. grind (arith, ok.early.early_new m, fresh m);
+    heard_early = λ m g h. grind (
+      arith,
+      le-leb z.ack (count z.n (N'.heard m)) h,
+      cases_Bool (N.delivered m),
+      cases_Bool (N.early m),
+    );
   }
 
   -- ---- its sheet
@@ -139,7 +132,7 @@ module _ {z : Size} {s t : State} (i : ℕ) (o : Ok z s) (c : Hears z s t i) whe
   -- the sheet has delivered and early messages only
   has : (m : ℕ) → Mem m N'.sheet → (m ∈ N.delivered) ⊎ (m ∈ N'.early)
   has m h = elim (mem_cases m N.sheet (ascending 64 D) h) [
-    | inl p ↦ elim (ok.sheet.has m p) [ inl g ↦ inl g | inr g ↦ inr (or_left (N.early m) (D m) g) ]
+    | inl p ↦ grind (arith, ok.sheet.has m p)
     | inr p ↦ inr (into_early m (on_new m p))
   ]
 
@@ -170,7 +163,8 @@ module _ {z : Size} {s t : State} (i : ℕ) (o : Ok z s) (c : Hears z s t i) whe
     has_delivered = λ m h. mem_left m N.sheet (ascending 64 D) (ok.sheet.has_delivered m h);
     has_early = λ m h. elim (or_cases (N.early m) (D m) h) [
       | inl p ↦ mem_left m N.sheet (ascending 64 D) (ok.sheet.has_early m p)
-      | inr p ↦ mem_right m N.sheet (ascending 64 D) (mem_ascending 64 D m (small m (quorum_known m (fresh m p).0)) p)
+      | inr p ↦ mem_right m N.sheet (ascending 64 D) (mem_ascending 64 D m
+          (omega (arith, quorum_known m (fresh m p).0, c.takes.book.messages, o.book.messages_le)) p)
     ];
     known = λ m h. elim (mem_cases m N.sheet (ascending 64 D) h) [
       | inl p ↦ b.known m p

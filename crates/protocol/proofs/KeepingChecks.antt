@@ -62,10 +62,7 @@ module _ {z : Size} {s t : State} (i : ℕ) (o : Ok z s) (c : KeepsCheck z s t i
     stage_le = h.stage_le;
     data_in = h.data_in;
     ack_in = h.ack_in;
-    check_in = λ p q. elim (h.check_in p q) [
-      | inl w ↦ inl (grind arith)
-      | inr w ↦ inr (omega (arith, w, more))
-    ];
+    check_in = λ p q. grind (arith, h.check_in p q, more);
   }
 
   -- the letter that it takes now

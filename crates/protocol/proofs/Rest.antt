@@ -5,7 +5,7 @@ use Rattle.std.proofs.Common.{◌≡◌, ℕ, suc, ◌<◌, ◌≤◌, true, fal
 use Rattle.std.proofs.lemmas.Bool.{cases_Bool, cases_lt, both_ways, true_from_ne_false, false_from_ne_true}
 use Rattle.protocol.specs.Sets.{◌∈◌, ◌∉◌, count}
 use Rattle.protocol.specs.Lists.{Mem}
-use Rattle.protocol.specs.Ring.{Size, State, data_letter, acknowledgement, check_letter, travelling, taken}
+use Rattle.protocol.specs.Ring.{Size, State, data_letter, acknowledgement, check_letter, taken}
 use Rattle.protocol.specs.Promises.{Quiet, DeliveredEverywhere, BroadcastIsDelivered}
 use Rattle.protocol.proofs.Facts.{carry, Posted, Told, past, Settled, Cause, Copy}
 use Rattle.protocol.proofs.Invariant.{TakenBy, Ok}
@@ -23,17 +23,7 @@ module _ {z : Size} {s : State} (o : Ok z s) (q : Quiet z s) where
   -- a letter between live nodes that is not ahead of its receiver is taken
   arrived : (i : ℕ) → i < s.sent → (s.letter i).sender ∈ s.live → (s.letter i).receiver ∈ s.live
       → (s.letter i).stage ≤ (s.node (s.letter i).receiver).stage → (s.letter i).mark ≡ taken
-  arrived i l a b h = elim (o.post.each i l).marks [
-    | inl e ↦ absurd (late e)
-    | inr (inl e) ↦ e
-    | inr (inr e) ↦ elim ((o.post.each i l).lost_astray e) [
-      | inl f ↦ absurd (both_ways (s.live (s.letter i).sender) f a)
-      | inr f ↦ absurd (both_ways (s.live (s.letter i).receiver) f b)
-    ]
-  ]
-    where
-      late : (s.letter i).mark ≡ travelling → ⊥
-      late e = omega (arith, q.no_receipt i l e b)
+  arrived i l a b h = grind (arith, (o.post.each i l).marks, (o.post.each i l).lost_astray, q.no_receipt i l)
 
   -- the copy for y of what a live node sent
   record Got (i y : ℕ) : Type 0 where
@@ -132,17 +122,14 @@ module _ {z : Size} {s : State} (o : Ok z s) (q : Quiet z s) where
 
       -- each keeps enough of them
       enough_kept : (y : ℕ) → Alive z s y → (s.node y).stage ≡ K → z.chk ≤ count z.n (s.node y).kept
-      enough_kept y a e = elim (cases_lt (count z.n (s.node y).kept) z.chk) [ inl h ↦ full h | inr h ↦ h ]
+      enough_kept y a e = elim (cases_lt (count z.n (s.node y).kept) z.chk) [
+        | inl h ↦ omega (arith, q.enough_chk, count_mono z.n s.live (s.node y).kept (each h))
+        | inr h ↦ h
+      ]
         where
           each : count z.n (s.node y).kept < z.chk → (v : ℕ) → v < z.n → v ∈ s.live → v ∈ (s.node y).kept
           each h v l k = let c = all_checked v (l, k) in
-              elim (got_check c.0 v y (subst (λ (j : ℕ). Posted s c.0 check_letter v j) (sym e) c.1) (l, k) a) [
-                | inl t ↦ t
-                | inr t ↦ absurd (omega arith)
-              ]
-
-          full : count z.n (s.node y).kept < z.chk → z.chk ≤ count z.n (s.node y).kept
-          full h = omega (arith, q.enough_chk, count_mono z.n s.live (s.node y).kept (each h))
+              grind (arith, got_check c.0 v y (subst (λ (j : ℕ). Posted s c.0 check_letter v j) (sym e) c.1) (l, k) a)
 
       -- and has proposed
       proposed : (y : ℕ) → Alive z s y → (s.node y).stage ≡ K → (s.node y).proposed ≡ true
@@ -159,17 +146,11 @@ module _ {z : Size} {s : State} (o : Ok z s) (q : Quiet z s) where
       undecided =
           let shut = closes one one-alive one_stage in
           let asked = proposed one one-alive one_stage in
-          elim (q.no_settling one one-alive.0 one-alive.1 shut asked) [
-            | inl h ↦ subst (λ (j : ℕ). j ∉ s.decided) one_stage h
-            | inr h ↦ absurd (omega (arith, served, one_stage))
-          ]
+          grind (arith, q.no_settling one one-alive.0 one-alive.1 shut asked, served, one_stage)
 
       -- so no live node is beyond it
       level : (y : ℕ) → Alive z s y → (s.node y).stage ≡ K
-      level y a = elim (cases_lt K (s.node y).stage) [
-        | inl h ↦ absurd (both_ways (s.decided K) undecided ((o.nodes y a.0).stage.settled K KFirst h))
-        | inr h ↦ omega (arith, low y a)
-      ]
+      level y a = grind (arith, low y a, undecided, (o.nodes y a.0).stage.settled K KFirst)
 
       -- but enough nodes have proposed in it
       impossible : ⊥
@@ -205,10 +186,7 @@ module _ {z : Size} {s : State} (o : Ok z s) (q : Quiet z s) where
 
     -- so no node, live or crashed, is beyond it
     not_beyond : (x : ℕ) → x < z.n → (s.node x).stage ≤ K
-    not_beyond x l = elim (cases_lt K (s.node x).stage) [
-      | inl h ↦ absurd (open_stage ((o.nodes x l).stage.settled K KFirst h))
-      | inr h ↦ h
-    ]
+    not_beyond x l = grind (arith, open_stage, (o.nodes x l).stage.settled K KFirst)
 
     -- ---- and have delivered everything
 

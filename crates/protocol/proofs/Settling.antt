@@ -109,21 +109,9 @@ module _ {z : Size} {s t : State} (r : ℕ) (o : Ok z s) (c : Settles z s t r) w
   then_parts : (m : ℕ) → Mem m (ascending 64 B) → (m ∈ C) × (m ∉ N.delivered) × (m ∉ N.early) × (m ∉ NC)
   then_parts m h = let p : m ∈ B = (ascending_mem 64 B m h).1 in (grind arith, grind arith, grind arith, grind arith)
 
-  -- every new nonconflicting message comes first
-  into_first : (m : ℕ) → m < 64 → m ∈ NC → m ∉ N.delivered → m ∉ N.early → Mem m (ascending 64 A)
-  into_first m l p g f = mem_ascending 64 A m l (grind arith)
-
-  -- every other new one then
-  into_then : (m : ℕ) → m < 64 → m ∈ C → m ∉ N.delivered → m ∉ N.early → m ∉ NC → Mem m (ascending 64 B)
-  into_then m l p g f d = mem_ascending 64 B m l (grind arith)
-
   -- the decision was broadcast
   known : (m : ℕ) → (m ∈ NC) ⊎ (m ∈ C) → m < s.messages
   known m h = decided_known o N.stage m c.decided h
-
-  -- messages are below 64
-  small : (m : ℕ) → m < s.messages → m < 64
-  small m h = omega (arith, h, o.book.messages_le)
 
   -- ---- the new stage
 
@@ -265,8 +253,8 @@ module _ {z : Size} {s t : State} (r : ℕ) (o : Ok z s) (c : Settles z s t r) w
     | inr g ↦ elim (cases_Bool (N.early m)) [
       | inl f ↦ on_old (ok.sheet.has_early m f)
       | inr f ↦ elim (cases_Bool (NC m)) [
-        | inl p ↦ on_first (into_first m (small m (known m (inl p))) p g f)
-        | inr p ↦ let q : m ∈ C = grind arith in on_then (into_then m (small m (known m (inr q))) q g f p)
+        | inl p ↦ on_first (mem_ascending 64 A m (omega (arith, known m (inl p), o.book.messages_le)) (grind arith))
+        | inr p ↦ on_then (mem_ascending 64 B m (omega (arith, known m (inr (grind arith)), o.book.messages_le)) (grind arith))
       ]
     ]
   ]

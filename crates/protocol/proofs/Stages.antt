@@ -1,10 +1,10 @@
 -- Stages are few: each finished stage has put two messages more into the past, and one that is closing has two more.
-use Rattle.std.proofs.Common.{◌≡◌, ℕ, zero, suc, ◌+◌, ◌*◌, ◌<◌, ◌≤◌, true, ◌⊎◌, sym, refl, ap, ◌∙◌, subst, inl, inr, arith}
-use Rattle.std.proofs.lemmas.Bool.{both_ways, or_left, or_right, or_cases}
+use Rattle.std.proofs.Common.{◌≡◌, ℕ, zero, suc, ◌+◌, ◌*◌, ◌<◌, ◌≤◌, true, ◌⊎◌, refl, ap, ◌∙◌, arith}
+use Rattle.std.proofs.lemmas.Bool.{both_ways, or_cases}
 use Rattle.protocol.specs.Sets.{Set, ◌∈◌, ◌∉◌, count, ◌∪◌}
 use Rattle.protocol.specs.Ring.{Size, State}
 use Rattle.protocol.specs.Promises.{DecisionHas, PutBy, PutsTwo}
-use Rattle.protocol.proofs.Facts.{carry, past, Settled, Cause, cause_in}
+use Rattle.protocol.proofs.Facts.{past, Settled, Cause, cause_in}
 use Rattle.protocol.proofs.Invariant.{Ok}
 use Rattle.protocol.proofs.Counting.{count_le, count_two}
 use Rattle.protocol.proofs.Order.{past_first, past_second, past_more, past_up}
@@ -12,29 +12,21 @@ use Rattle.protocol.proofs.Order.{past_first, past_second, past_more, past_up}
 module _ {z : Size} {s : State} (o : Ok z s) where
   -- conflicting messages are different
   pub different : (a b : ℕ) → s.conflict a b ≡ true → a ≡ b → ⊥
-  different a b c e = both_ways (s.conflict a a) (o.book.not_itself a) (subst (λ (x : ℕ). s.conflict a x ≡ true) (sym e) c)
+  different a b c e = grind (arith, o.book.not_itself a)
 
   -- a decided message was broadcast
   pub decided_known : (j m : ℕ) → j ∈ s.decided → (m ∈ s.nonconflicting j) ⊎ (m ∈ s.conflicting j) → m < s.messages
   decided_known j m d h =
       let c = o.chooser.chosen j d in
-      let M : Set = s.proposal_nonconflicting j c.by in
-      let D : Set = s.proposal_conflicting j c.by in
-      (o.chooser.proposal j c.by c.in_ring c.made).known m (elim h [
-        | inl p ↦ or_left (M m) (D m) (carry m c.nonconflicting p)
-        | inr p ↦ or_right (M m) (D m) (carry m c.conflicting p)
-      ])
+      (o.chooser.proposal j c.by c.in_ring c.made).known m
+      (grind (arith, h, ap (λ (X : Set). X m) c.nonconflicting, ap (λ (X : Set). X m) c.conflicting))
 
   -- a decided stage has a cause in its decision
   decided_cause : (j : ℕ) → j ∈ s.decided → Cause s j (s.nonconflicting j ∪ s.conflicting j)
   decided_cause j d = let c = o.chooser.chosen j d in
       cause_in (s.proposal_nonconflicting j c.by ∪ s.proposal_conflicting j c.by) (s.nonconflicting j ∪ s.conflicting j)
-      (λ m h n. into (s.proposal_nonconflicting j c.by) (s.proposal_conflicting j c.by) m c.nonconflicting
-      c.conflicting h) (o.chooser.proposal j c.by c.in_ring c.made).cause
-    where
-      into : (M D : Set) (m : ℕ) → s.nonconflicting j ≡ M → s.conflicting j ≡ D → m ∈ (M ∪ D)
-          → m ∈ (s.nonconflicting j ∪ s.conflicting j)
-      into M D m p q h = grind (arith, ap (λ (X : Set). X m) p, ap (λ (X : Set). X m) q)
+      (λ m h n. grind (arith, h, ap (λ (X : Set). X m) c.nonconflicting, ap (λ (X : Set). X m) c.conflicting))
+      (o.chooser.proposal j c.by c.in_ring c.made).cause
 
   -- what a decision has is past afterwards
   decided_past : (j m : ℕ) → DecisionHas s j m → m ∈ past s (suc j)
