@@ -1,8 +1,8 @@
 -- How many numbers below n are in a set, and that quorums meet. Each law is a recursion on n.
-use Rattle.std.proofs.Common.{◌≡◌, ℕ, zero, suc, ◌+◌, ◌<◌, ◌≤◌, true, ◌&&◌, ltb, eqb, sym, refl, ap, ◌∙◌}
-use Rattle.std.proofs.Common.{subst, inl, inr, arith}
-use Rattle.std.proofs.lemmas.Bool.{false≢true, cases_Bool, cases_lt, cases_eq, and_parts, and_from, or_left, or_right, or_from}
-use Rattle.std.proofs.lemmas.Bool.{or_cases, eq-eqb, ne_eqb, eqb-true, ltb-true, lt-ltb}
+use Rattle.std.proofs.Common.{◌≡◌, ℕ, zero, suc, ◌+◌, ◌<◌, ◌≤◌, true, ◌&&◌, ltb, refl, ap, ◌∙◌}
+use Rattle.std.proofs.Common.{inl, inr, arith}
+use Rattle.std.proofs.lemmas.Bool.{false≢true, cases_Bool, cases_lt, cases_eq, and_parts, and_from}
+use Rattle.std.proofs.lemmas.Bool.{eq-eqb, ne_eqb, eqb-true, ltb-true, lt-ltb}
 use Rattle.protocol.specs.Sets.{Set, ◌∈◌, ◌∉◌, count, none, only, ◌∩◌, ◌∪◌}
 
 -- every number below n that is in f is in g
@@ -109,16 +109,13 @@ pub count_two : (n : ℕ) (f g : Set) → Within n f g → (a b : ℕ) → a < n
     → count n f + 2 ≤ count n g
 count_two n f g h a b la lb ne fa fb ga gb =
     let one : count n f < count n (f ∪ only a) =
-    count_more n f (f ∪ only a) (λ i l e. or_left (f i) (eqb i a) e) a la fa (or_right (f a) (eqb a a) (eq-eqb a a refl)) in
+    count_more n f (f ∪ only a) (λ i l e. grind arith) a la fa (grind (arith, eq-eqb a a refl)) in
     let two : count n (f ∪ only a) < count n g =
-    count_more n (f ∪ only a) g into b lb (or_from (f b) (eqb b a) fb (ne_eqb b a (λ e. ne (sym e)))) gb in
+    count_more n (f ∪ only a) g into b lb (grind (arith, eqb-true b a, ne)) gb in
     omega arith
   where
     into : Within n (f ∪ only a) g
-    into i l e = elim (or_cases (f i) (eqb i a) e) [
-      | inl x ↦ h i l x
-      | inr x ↦ subst (λ (y : ℕ). y ∈ g) (sym (eqb-true i a x)) ga
-    ]
+    into i l e = grind (arith, h i l, ga, eqb-true i a)
 
 -- ---- a member with the lowest stage
 

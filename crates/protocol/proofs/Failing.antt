@@ -8,7 +8,7 @@ use Rattle.protocol.specs.Calls.{ReceivesKnown, PassesAcknowledgement, PassesChe
 use Rattle.protocol.proofs.Facts.{same_mark, same_receiver, carry}
 use Rattle.protocol.proofs.Invariant.{TakenBy, Astray, LetterOk, Ok}
 use Rattle.protocol.proofs.Continuing.{Continues}
-use Rattle.protocol.proofs.Mail.{Mail, post_keeps, mail_none, mail_marks, NoTurn, NoCome, Turned}
+use Rattle.protocol.proofs.Mail.{Mail, post_keeps, mail_none, mail_marks, turned_is, NoTurn, NoCome, Turned}
 use Rattle.protocol.proofs.Acting.{live_same, proposers_same, continues_same, book_keeps, chooser_keeps, left}
 
 -- where no letter comes there is nothing to show of one
@@ -28,13 +28,9 @@ module _ {z : Size} {s t : State} (o : Ok z s) (i v : ℕ) (marks : Marks s t i 
   e : Continues s t
   e = continues_same mail book chooser (live_same s t live)
 
-  -- the letter that got the mark
-  turned_is : (A B : Letter) → Turned s i v A B → B ≡ marked (s.letter i) v
-  turned_is A B (p, q) = q ∙ ap (λ (L : Letter). marked L v) p
-
   -- it is taken, or lost and astray
   turned_mark : (A B : Letter) → Turned s i v A B → (B.mark ≡ taken) ⊎ ((B.mark ≡ lost) × Astray t B)
-  turned_mark A B h = subst (λ (L : Letter). (L.mark ≡ taken) ⊎ ((L.mark ≡ lost) × Astray t L)) (sym (turned_is A B h))
+  turned_mark A B h = subst (λ (L : Letter). (L.mark ≡ taken) ⊎ ((L.mark ≡ lost) × Astray t L)) (sym (turned_is s i v A B h))
       (elim ends [
         | inl k ↦ inl k
         | inr (k, inl w) ↦ inr (k, inl (live_same s t live (s.letter i).sender w))
@@ -43,7 +39,7 @@ module _ {z : Size} {s t : State} (o : Ok z s) (i v : ℕ) (marks : Marks s t i 
 
   -- if it is taken, its receiver made use of it
   turned_taken : (x : ℕ) (A B : Letter) → Turned s i v A B → B.receiver ≡ x → B.mark ≡ taken → TakenBy z (s.node x) B
-  turned_taken x A B h f m = let b = turned_is A B h in
+  turned_taken x A B h f m = let b = turned_is s i v A B h in
       subst (λ (L : Letter). TakenBy z (s.node x) L) (sym b)
       (subst (λ (y : ℕ). TakenBy z (s.node y) (marked (s.letter i) v)) (sym (same_receiver b) ∙ f)
       (took (sym (same_mark b) ∙ m)))

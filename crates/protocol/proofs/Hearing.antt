@@ -10,7 +10,7 @@ use Rattle.protocol.specs.Calls.{Hears, taker}
 use Rattle.protocol.proofs.Facts.{Acknowledged, Precedes, earlier}
 use Rattle.protocol.proofs.Invariant.{EarlyOk, SheetOk, TakenBy, NodeOk, PostOk, Ok}
 use Rattle.protocol.proofs.Continuing.{Continues, acknowledged_up, stage_up, pending_up, checks_up, closing_up, sheet_up}
-use Rattle.protocol.proofs.Mail.{mail_sent, mail_taken, Turned}
+use Rattle.protocol.proofs.Mail.{mail_sent, mail_taken, turned_is, Turned}
 use Rattle.protocol.proofs.Counting.{count_mono, count_one, quorums_meet}
 use Rattle.protocol.proofs.Lists.{mem_left, mem_right, mem_cases, once_join, before_cases, before_mem, ascending_mem}
 use Rattle.protocol.proofs.Lists.{mem_ascending, ascending_once}
@@ -158,7 +158,7 @@ module _ {z : Size} {s t : State} (i : ℕ) (o : Ok z s) (c : Hears z s t i) whe
   sheet = let b = sheet_up e ok.sheet in record {
     once = once_join N.sheet (ascending 64 D) ok.sheet.once (ascending_once 64 D) (λ m p q.
         let w = fresh m (on_new m q) in
-        elim (ok.sheet.has m p) [ inl g ↦ both_ways (N.delivered m) w.1 g | inr g ↦ both_ways (N.early m) w.2 g ]);
+        grind (arith, ok.sheet.has m p, w.1, w.2));
     has = has;
     has_delivered = λ m h. mem_left m N.sheet (ascending 64 D) (ok.sheet.has_delivered m h);
     has_early = λ m h. elim (or_cases (N.early m) (D m) h) [
@@ -186,7 +186,7 @@ module _ {z : Size} {s t : State} (i : ℕ) (o : Ok z s) (c : Hears z s t i) whe
 
   -- the letter that it takes now
   taken_now : (A B : Letter) → Turned s i taken A B → B.receiver ≡ r → B.mark ≡ taken → TakenBy z N' B
-  taken_now A B h f v = subst (λ (L : Letter). TakenBy z N' L) (sym (receiving.turned_is o i c.takes A B h)) (record {
+  taken_now A B h f v = subst (λ (L : Letter). TakenBy z N' L) (sym (turned_is s i taken A B h)) (record {
     stage_le = c.takes.not_ahead;
     data_in = λ a p. absurd (omega (arith, p, c.kind));
     ack_in = λ m p q g k. grind (arith, k, eq-eqb x x refl);

@@ -8,7 +8,7 @@ use Rattle.protocol.specs.Calls.{KeepsCheck, taker}
 use Rattle.protocol.proofs.Facts.{Checked}
 use Rattle.protocol.proofs.Invariant.{TakenBy, NodeOk, Ok}
 use Rattle.protocol.proofs.Continuing.{Continues, checked_up, stage_up, pending_up, early_up, closing_up, sheet_up}
-use Rattle.protocol.proofs.Mail.{mail_sent, mail_taken, Turned}
+use Rattle.protocol.proofs.Mail.{mail_sent, mail_taken, turned_is, Turned}
 use Rattle.protocol.proofs.Counting.{count_mono, count_join, count_only}
 use Rattle.protocol.proofs.Receiving as receiving
 
@@ -67,7 +67,7 @@ module _ {z : Size} {s t : State} (i : ℕ) (o : Ok z s) (c : KeepsCheck z s t i
 
   -- the letter that it takes now
   taken_now : (A B : Letter) → Turned s i taken A B → B.receiver ≡ r → B.mark ≡ taken → TakenBy z N' B
-  taken_now A B h f v = subst (λ (L : Letter). TakenBy z N' L) (sym (receiving.turned_is o i c.takes A B h)) (record {
+  taken_now A B h f v = subst (λ (L : Letter). TakenBy z N' L) (sym (turned_is s i taken A B h)) (record {
     stage_le = c.takes.not_ahead;
     data_in = λ a p. absurd (omega (arith, p, c.kind));
     ack_in = λ a p. absurd (omega (arith, p, c.kind));

@@ -57,15 +57,8 @@ once_join (x ∷ l) r p q d = (
 -- a pair in order on a joined list: in the first part, across, or in the second part
 pub before_cases : (l r : List ℕ) (a b : ℕ) → Before (l ++ r) a b → Before l a b ⊎ ((Mem a l × Mem b r) ⊎ Before r a b)
 before_cases [] r a b h = inr (inr h)
-before_cases (x ∷ l) r a b (inl p) = elim (mem_cases b l r p.1) [
-  | inl m ↦ inl (inl (p.0, m))
-  | inr m ↦ inr (inl (inl p.0, m))
-]
-before_cases (x ∷ l) r a b (inr h) = elim (before_cases l r a b h) [
-  | inl p ↦ inl (inr p)
-  | inr (inl p) ↦ inr (inl (inr p.0, p.1))
-  | inr (inr p) ↦ inr (inr p)
-]
+before_cases (x ∷ l) r a b (inl p) = grind (arith, mem_cases b l r p.1)
+before_cases (x ∷ l) r a b (inr h) = grind (arith, before_cases l r a b h)
 
 -- ---- ascending lists
 

@@ -198,6 +198,10 @@ Turned s i v A B = (A ≡ s.letter i) × (B ≡ marked A v)
 abbrev pub SentNew : Size → ℕ → ℕ → ℕ → Set → Letter → Type 0
 SentNew z x k j S L = (y : ℕ) × (y < z.n) × (L ≡ new_letter x y k j S)
 
+-- the letter that gets the mark
+pub turned_is : (s : State) (i v : ℕ) (A B : Letter) → Turned s i v A B → B ≡ marked (s.letter i) v
+turned_is s i v A B (p, q) = q ∙ ap (λ (L : Letter). marked L v) p
+
 -- a letter with another mark has the same words
 turned_words : (s : State) (i v : ℕ) (A B : Letter) → Turned s i v A B → SameWords A B
 turned_words s i v A B (p, q) = record {

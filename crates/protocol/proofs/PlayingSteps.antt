@@ -1,6 +1,6 @@
 -- Steps, broadcasts and proposals as functions on states, as the receipts are in Playing.
 use Rattle.std.proofs.Common.{◌≡◌, ℕ, suc, ◌+◌, ◌<◌, ◌≤◌, Bool, true, false, not, ◌&&◌, eqb, ltb, leb, ◌⊎◌, refl, inl, inr, arith}
-use Rattle.std.proofs.lemmas.Bool.{and_left, true_from_ne_false, both_ways, and_parts, and_from, eqb-true, eq-eqb, ne_eqb, ltb-true}
+use Rattle.std.proofs.lemmas.Bool.{and_left, true_from_ne_false, both_ways, eqb-true, eq-eqb, ne_eqb, ltb-true}
 use Rattle.std.proofs.lemmas.Bool.{leb-true, cond-true, cond-false}
 use Rattle.protocol.specs.Sets.{Set, ◌∈◌, ◌∉◌, count, only, ◌∖◌}
 use Rattle.protocol.specs.Ring.{Size, State, Node, Letter, data_letter, acknowledgement, check_letter}
@@ -190,7 +190,7 @@ module _ (z : Size) (s : State) (r : ℕ) (r-in : r < z.n) (nobody : (j x : ℕ)
   decided_now l h = record {
     by = r;
     in_ring = r-in;
-    made = and_from (eqb l j) (eqb r r) h (eq-eqb r r refl);
+    made = grind (arith, h, eq-eqb r r refl);
     nonconflicting = cond-true (eqb l j) V (s.nonconflicting l) h;
     conflicting = cond-true (eqb l j) D (s.conflicting l) h;
   }
@@ -209,13 +209,13 @@ module _ (z : Size) (s : State) (r : ℕ) (r-in : r < z.n) (nobody : (j x : ℕ)
   handed_in : HandsIn z s (proposed_by z r s) r j V D
   handed_in = record {
     first = nobody j r;
-    stands = and_from (eqb j j) (eqb r r) (eq-eqb j j refl) (eq-eqb r r refl);
+    stands = grind (arith, eq-eqb j j refl, eq-eqb r r refl);
     nonconflicting_is = refl;
     conflicting_is = refl;
     kept = λ l x h. absurd (both_ways (s.proposers l x) (nobody l x) h);
     nonconflicting_kept = λ l x h. absurd (both_ways (s.proposers l x) (nobody l x) h);
     conflicting_kept = λ l x h. absurd (both_ways (s.proposers l x) (nobody l x) h);
-    no_other = λ l x h. let p = and_parts (eqb l j) (eqb x r) h in inr (eqb-true l j p.0, eqb-true x r p.1);
+    no_other = λ l x h. inr (eqb-true l j (grind arith), eqb-true x r (grind arith));
     decisions_kept = λ l h. absurd (both_ways (s.decided l) (undecided l) h);
     first_kept = λ l h. cond-false (eqb l j) V (s.nonconflicting l) (other_stage l h);
     second_kept = λ l h. cond-false (eqb l j) D (s.conflicting l) (other_stage l h);

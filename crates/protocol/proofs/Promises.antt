@@ -1,6 +1,6 @@
 -- The promises, each from the invariant; and the theorem over every run.
 use Rattle.std.proofs.Common.{◌≡◌, ℕ, zero, suc, ◌+◌, ◌*◌, ◌<◌, ◌≤◌, true, ◌||◌, ◌⊎◌, refl, ◌∙◌, inl, inr, arith}
-use Rattle.std.proofs.lemmas.Bool.{cases_lt, both_ways, false_from_ne_true}
+use Rattle.std.proofs.lemmas.Bool.{both_ways, false_from_ne_true}
 use Rattle.protocol.specs.Sets.{Set, ◌∈◌, count}
 use Rattle.protocol.specs.Ring.{Size, State, check_letter}
 use Rattle.protocol.specs.Promises.{ConflictsInOneOrder, SameSheetsSameResult, TwoMessagesAStage}
@@ -105,10 +105,8 @@ module _ {z : Size} {s : State} (o : Ok z s) where
       no_check = no_check;
       gathering = λ r l. false_from_ne_true (s.node r).closing
           (λ c. not_closed r (s.node r).stage l (o.nodes r l).stage.first (inr (refl, c)));
-      first_stage = λ r l. elim (cases_lt 1 (s.node r).stage) [
-        | inl h ↦ absurd (not_closed r 1 l (omega arith) (inl h))
-        | inr h ↦ omega (arith, h, (o.nodes r l).stage.first)
-      ];
+      first_stage = λ r l. let k : 1 < (s.node r).stage → ⊥ = λ h. not_closed r 1 l (omega arith) (inl h) in
+          grind (arith, k, (o.nodes r l).stage.first);
       no_proposal = λ j r. false_from_ne_true (s.proposers j r) (λ h.
           let p = o.chooser.proposal j r (o.chooser.proposer_in j r h) h in
           no_cause j (λ m. s.proposal_nonconflicting j r m || s.proposal_conflicting j r m) p.known p.cause);

@@ -1,5 +1,5 @@
 -- A closing node that keeps enough checks proposes.
-use Rattle.std.proofs.Common.{◌≡◌, ℕ, ◌/◌, ◌<◌, Bool, true, not, ◌&&◌, ◌||◌, ◌⊎◌, sym, refl, ap, ◌∙◌, subst, inl, inr, arith}
+use Rattle.std.proofs.Common.{◌≡◌, ℕ, ◌/◌, ◌<◌, Bool, true, ◌&&◌, ◌||◌, ◌⊎◌, sym, refl, ap, ◌∙◌, subst, inl, inr, arith}
 use Rattle.std.proofs.lemmas.Bool.{cases_Bool, or_cases, and_parts, ltb-true, lt-ltb}
 use Rattle.protocol.specs.Sets.{Set, ◌∈◌, count, ◌∖◌, ◌∪◌}
 use Rattle.protocol.specs.Ring.{Size, State, Node}
@@ -97,7 +97,7 @@ module _ {z : Size} {s t : State} (r : ℕ) (o : Ok z s) (c : Proposes z s t r) 
   known m h = elim (or_cases (V m) (D m) h) [
     | inl v ↦ in_check v
     | inr d ↦ (pending_up e ok.pending).received_known m
-        (undelivered_parts N m (and_parts (undelivered N m) (not (V m)) d).0).0
+        (grind (arith, d))
   ]
     where
       -- a tallied message is in some check
@@ -134,10 +134,7 @@ module _ {z : Size} {s t : State} (r : ℕ) (o : Ok z s) (c : Proposes z s t r) 
   -- the part on the chooser
   chooser : ChooserOk z t
   chooser = record {
-    proposer_in = λ j x h. elim (c.hands_in.no_other j x h) [
-      | inl p ↦ o.chooser.proposer_in j x p
-      | inr p ↦ subst (λ (y : ℕ). y < z.n) (sym p.1) c.steps.in_ring
-    ];
+    proposer_in = λ j x h. grind (arith, c.hands_in.no_other j x h, o.chooser.proposer_in j x, c.steps.in_ring);
     proposal = λ j x l h. proposal j x l (c.hands_in.no_other j x h);
     chosen = c.hands_in.chosen;
     decides = c.hands_in.decides;
@@ -149,10 +146,7 @@ module _ {z : Size} {s t : State} (r : ℕ) (o : Ok z s) (c : Proposes z s t r) 
   closing : ClosingOk t r N.stage N.closing true
   closing = record {
     closed = λ j l h. let w = ok.closing.closed j l h in (w.0, posted_up e w.1);
-    proposed_when = λ j h. elim (c.hands_in.no_other j r h) [
-      | inl p ↦ elim (ok.closing.proposed_when j p) [ inl w ↦ inl w | inr w ↦ inr (w.0, w.1, refl) ]
-      | inr p ↦ inr (p.0, c.closing, refl)
-    ];
+    proposed_when = λ j h. grind (arith, c.hands_in.no_other j r h, ok.closing.proposed_when j, c.closing);
     proposed_stands = λ h. c.hands_in.stands;
   }
 
@@ -176,6 +170,6 @@ module _ {z : Size} {s t : State} (r : ℕ) (o : Ok z s) (c : Proposes z s t r) 
     post = post_keeps mail e o.post (λ A B h. absurd h) none_came (λ L B h. absurd h) (λ L i h. absurd h);
     chooser = chooser;
     nodes = acts o e mail r N' c.becomes node_ok
-        (λ x j d h. elim (c.hands_in.no_other j x h) [ inl p ↦ p | inr p ↦ absurd (d p.1) ]) (λ L h. absurd h)
+        (λ x j d h. grind (arith, c.hands_in.no_other j x h, d)) (λ L h. absurd h)
         (λ A B h. absurd h);
   }

@@ -1,27 +1,23 @@
 -- What every receipt has in common: the letter at place i is taken, and its receiver acts.
-use Rattle.std.proofs.Common.{◌≡◌, ℕ, ◌<◌, ◌⊎◌, ap, ◌∙◌, inl}
+use Rattle.std.proofs.Common.{◌≡◌, ℕ, ◌<◌, ◌⊎◌, inl}
 use Rattle.protocol.specs.Sets.{◌∈◌, ◌∉◌}
 use Rattle.protocol.specs.Ring.{Size, State, Node, Letter, taken, lost}
-use Rattle.protocol.specs.Calls.{Takes, NoneSent, Becomes, marked, taker}
+use Rattle.protocol.specs.Calls.{Takes, NoneSent, Becomes, taker}
 use Rattle.protocol.proofs.Facts.{same_mark, same_receiver}
 use Rattle.protocol.proofs.Invariant.{NodeOk, Astray, PostOk, Ok}
 use Rattle.protocol.proofs.Continuing.{Continues}
-use Rattle.protocol.proofs.Mail.{Mail, mail_marks, post_keeps, NoCome, Turned}
+use Rattle.protocol.proofs.Mail.{Mail, mail_marks, post_keeps, turned_is, NoCome, Turned}
 use Rattle.protocol.proofs.Acting.{live_same, proposers_same, continues_same, book_keeps, chooser_keeps, acts}
 use Rattle.protocol.proofs.Failing.{none_came}
 
 module _ {z : Size} {s t : State} (o : Ok z s) (i : ℕ) (k : Takes s t i) where
-  -- the letter that is taken
-  pub turned_is : (A B : Letter) → Turned s i taken A B → B ≡ marked (s.letter i) taken
-  turned_is A B (p, q) = q ∙ ap (λ (L : Letter). marked L taken) p
-
-  -- its mark
+  -- the mark of the letter that is taken
   pub turned_mark : (A B : Letter) → Turned s i taken A B → (B.mark ≡ taken) ⊎ ((B.mark ≡ lost) × Astray t B)
-  turned_mark A B h = inl (same_mark (turned_is A B h))
+  turned_mark A B h = inl (same_mark (turned_is s i taken A B h))
 
   -- and its receiver
   pub turned_receiver : (A B : Letter) → Turned s i taken A B → B.receiver ≡ (s.letter i).receiver
-  turned_receiver A B h = same_receiver (turned_is A B h)
+  turned_receiver A B h = same_receiver (turned_is s i taken A B h)
 
   -- its receiver
   pub receiver_in : (s.letter i).receiver < z.n

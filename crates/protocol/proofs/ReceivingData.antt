@@ -8,7 +8,7 @@ use Rattle.protocol.specs.Calls.{Takes, ReceivesOwn, Relays, taker}
 use Rattle.protocol.proofs.Facts.{cause_in, same_sender, carry, Told}
 use Rattle.protocol.proofs.Invariant.{PendingOk, SentBy, TakenBy, NodeOk, Ok}
 use Rattle.protocol.proofs.Continuing.{Continues, told_up, stage_up, pending_up, early_up, checks_up, closing_up, sheet_up}
-use Rattle.protocol.proofs.Mail.{Mail, mail_sent, mail_taken, mail_both, post_keeps, Turned, SentNew}
+use Rattle.protocol.proofs.Mail.{Mail, mail_sent, mail_taken, mail_both, post_keeps, turned_is, Turned, SentNew}
 use Rattle.protocol.proofs.Acting.{continues_same, book_keeps, chooser_keeps, acts}
 use Rattle.protocol.proofs.Broadcasting.{data_letter_ok, data_pair_ok, data_sent_ok, data_kind, data_told}
 use Rattle.protocol.proofs.Receiving as receiving
@@ -76,7 +76,7 @@ module _ {z : Size} {s t : State} (o : Ok z s) (i m : ℕ) (k : Takes s t i) (ki
 
     -- the letter that it takes now
     taken_now : (A B : Letter) → Turned s i taken A B → B.receiver ≡ r → B.mark ≡ taken → TakenBy z N' B
-    taken_now A B h f v = subst (λ (L : Letter). TakenBy z N' L) (sym (receiving.turned_is o i k A B h)) (record {
+    taken_now A B h f v = subst (λ (L : Letter). TakenBy z N' L) (sym (turned_is s i taken A B h)) (record {
       stage_le = k.not_ahead;
       data_in = λ a p q. grind (arith, carry a message q);
       ack_in = λ a p. absurd (omega (arith, p, kind));

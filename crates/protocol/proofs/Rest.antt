@@ -196,13 +196,14 @@ module _ {z : Size} {s : State} (o : Ok z s) (q : Quiet z s) where
 
     -- a live node has delivered what it has received: all live nodes acknowledged it
     has_received : (y m : ℕ) → Alive z s y → m ∈ (s.node y).received → Mem m (s.node y).sheet
-    has_received y m a h = elim (cases_Bool ((s.node y).delivered m)) [
-      | inl g ↦ (o.nodes y a.0).sheet.has_delivered m g
-      | inr n ↦ elim ((o.nodes y a.0).early.heard_early m (gathers y a) (quorum n)) [
-        | inl g ↦ (o.nodes y a.0).sheet.has_delivered m g
-        | inr g ↦ (o.nodes y a.0).sheet.has_early m g
-      ]
-    ]
+    has_received y m a h = grind (
+      arith,
+      cases_Bool ((s.node y).delivered m),
+      (o.nodes y a.0).sheet.has_delivered m,
+      (o.nodes y a.0).sheet.has_early m,
+      (o.nodes y a.0).early.heard_early m (gathers y a),
+      quorum,
+    )
       where
         each : m ∉ (s.node y).delivered → (v : ℕ) → v < z.n → v ∈ s.live → v ∈ (s.node y).heard m
         each n v l k = got_ack v y m (l, k) a (stage_is v (l, k) ∙ sym (stage_is y a)) (gathers y a)
