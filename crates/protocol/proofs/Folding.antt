@@ -1,6 +1,6 @@
 -- Two lists with the same numbers that have each conflicting pair in one order fold to the same result: the head of the one
 -- list can be pulled to the front of the other past numbers that it does not conflict with.
-use Rattle.std.proofs.Common.{◌≡◌, ℕ, Bool, true, false, ◌⊎◌, List, [], ◌∷◌, sym, refl, ap, ◌∙◌, subst, inl, inr}
+use Rattle.std.proofs.Common.{◌≡◌, ℕ, Bool, true, false, ◌⊎◌, List, [], ◌∷◌, sym, refl, ap, ◌∙◌, subst, inl, inr, arith}
 use Rattle.std.proofs.lemmas.Bool.{cases_Bool}
 use Rattle.protocol.specs.Lists.{Mem, Once, Before, fold}
 use Rattle.protocol.proofs.Lists.{before_mem, before_apart}
@@ -18,17 +18,14 @@ mem_without : (a : ℕ) (l : List ℕ) (h : Mem a l) (y : ℕ) → Mem y (withou
 unfolding without
 mem_without a [] h y m = elim h [ ]
 mem_without a (x ∷ l) (inl e) y m = inr m
-mem_without a (x ∷ l) (inr h) y (inl e) = inl e
-mem_without a (x ∷ l) (inr h) y (inr m) = inr (mem_without a l h y m)
+mem_without a (x ∷ l) (inr h) y m = grind (arith, mem_without a l h y)
 
 -- it has every other number
 mem_stays : (a : ℕ) (l : List ℕ) (h : Mem a l) (y : ℕ) → (a ≡ y → ⊥) → Mem y l → Mem y (without a l h)
 unfolding without
 mem_stays a [] h y n m = elim h [ ]
-mem_stays a (x ∷ l) (inl e) y n (inl f) = absurd (n (sym e ∙ f))
-mem_stays a (x ∷ l) (inl e) y n (inr m) = m
-mem_stays a (x ∷ l) (inr h) y n (inl f) = inl f
-mem_stays a (x ∷ l) (inr h) y n (inr m) = inr (mem_stays a l h y n m)
+mem_stays a (x ∷ l) (inl e) y n m = grind (arith, n, m)
+mem_stays a (x ∷ l) (inr h) y n m = grind (arith, mem_stays a l h y n)
 
 -- it has no repeats, if the list has none
 once_without : (a : ℕ) (l : List ℕ) (h : Mem a l) → Once l → Once (without a l h)
@@ -50,13 +47,11 @@ before_without : (a : ℕ) (l : List ℕ) (h : Mem a l) (x y : ℕ) → Before (
 unfolding without
 before_without a [] h x y b = elim h [ ]
 before_without a (v ∷ l) (inl e) x y b = inr b
-before_without a (v ∷ l) (inr h) x y (inl p) = inl (p.0, mem_without a l h y p.1)
-before_without a (v ∷ l) (inr h) x y (inr b) = inr (before_without a l h x y b)
+before_without a (v ∷ l) (inr h) x y b = grind (arith, mem_without a l h y, before_without a l h x y)
 
 -- what is on a list and is not its head is on its tail
 on_tail : (a : ℕ) (t : List ℕ) (x : ℕ) → Mem x (a ∷ t) → (a ≡ x → ⊥) → Mem x t
-on_tail a t x (inl e) n = absurd (n e)
-on_tail a t x (inr m) n = m
+on_tail a t x m n = grind (arith, n, m)
 
 -- ---- folding
 

@@ -131,10 +131,7 @@ module _ {z : Size} {s t : State} (i : ℕ) (o : Ok z s) (c : Hears z s t i) whe
 
   -- the sheet has delivered and early messages only
   has : (m : ℕ) → Mem m N'.sheet → (m ∈ N.delivered) ⊎ (m ∈ N'.early)
-  has m h = elim (mem_cases m N.sheet (ascending 64 D) h) [
-    | inl p ↦ grind (arith, ok.sheet.has m p)
-    | inr p ↦ inr (into_early m (on_new m p))
-  ]
+  has m h = grind (arith, mem_cases m N.sheet (ascending 64 D) h, ok.sheet.has m, on_new m)
 
   -- a conflicting pair on the new sheet: the first is of an earlier stage
   ordered : (a b : ℕ) → t.conflict a b ≡ true → Before N'.sheet a b → Precedes t a b
@@ -161,15 +158,18 @@ module _ {z : Size} {s t : State} (i : ℕ) (o : Ok z s) (c : Hears z s t i) whe
         grind (arith, ok.sheet.has m p, w.1, w.2));
     has = has;
     has_delivered = λ m h. mem_left m N.sheet (ascending 64 D) (ok.sheet.has_delivered m h);
-    has_early = λ m h. elim (or_cases (N.early m) (D m) h) [
-      | inl p ↦ mem_left m N.sheet (ascending 64 D) (ok.sheet.has_early m p)
-      | inr p ↦ mem_right m N.sheet (ascending 64 D) (mem_ascending 64 D m
-          (omega (arith, quorum_known m (fresh m p).0, c.takes.book.messages, o.book.messages_le)) p)
-    ];
-    known = λ m h. elim (mem_cases m N.sheet (ascending 64 D) h) [
-      | inl p ↦ b.known m p
-      | inr p ↦ quorum_known m (fresh m (on_new m p)).0
-    ];
+    has_early = λ m h. grind (
+      arith,
+      ok.sheet.has_early m,
+      mem_left m N.sheet (ascending 64 D),
+      mem_right m N.sheet (ascending 64 D),
+      mem_ascending 64 D m,
+      quorum_known m,
+      fresh m,
+      c.takes.book.messages,
+      o.book.messages_le,
+    );
+    known = λ m h. grind (arith, mem_cases m N.sheet (ascending 64 D) h, b.known m, quorum_known m, on_new m, fresh m);
     ordered = ordered;
   }
 

@@ -10,8 +10,7 @@ use Rattle.protocol.specs.Lists.{Mem, Once, Before, ascending}
 -- what stands before or after something is on the list
 pub before_mem : (l : List ℕ) (x y : ℕ) → Before l x y → (Mem x l) × (Mem y l)
 before_mem [] x y b = elim b [ ]
-before_mem (v ∷ l) x y (inl p) = (inl p.0, inr p.1)
-before_mem (v ∷ l) x y (inr b) = let h = before_mem l x y b in (inr h.0, inr h.1)
+before_mem (v ∷ l) x y b = grind (arith, before_mem l x y)
 
 -- nothing stands before itself on a list without repeats
 pub before_apart : (l : List ℕ) (x y : ℕ) → Once l → Before l x y → x ≡ y → ⊥
@@ -22,18 +21,14 @@ before_apart (v ∷ l) x y o (inr b) e = before_apart l x y o.1 b e
 -- of two different numbers on a list, one stands before the other
 pub before_one : (l : List ℕ) (x y : ℕ) → (x ≡ y → ⊥) → Mem x l → Mem y l → Before l x y ⊎ Before l y x
 before_one [] x y n a b = elim a [ ]
-before_one (v ∷ l) x y n (inl a) (inl b) = absurd (n (sym a ∙ b))
-before_one (v ∷ l) x y n (inl a) (inr b) = inl (inl (a, b))
-before_one (v ∷ l) x y n (inr a) (inl b) = inr (inl (b, a))
-before_one (v ∷ l) x y n (inr a) (inr b) = elim (before_one l x y n a b) [ inl p ↦ inl (inr p) | inr p ↦ inr (inr p) ]
+before_one (v ∷ l) x y n a b = grind (arith, n, a, b, before_one l x y n)
 
 -- ---- joined lists
 
 -- what is on the first list is on the joined one
 pub mem_left : (a : ℕ) (l r : List ℕ) → Mem a l → Mem a (l ++ r)
 mem_left a [] r h = elim h [ ]
-mem_left a (x ∷ l) r (inl e) = inl e
-mem_left a (x ∷ l) r (inr h) = inr (mem_left a l r h)
+mem_left a (x ∷ l) r h = grind (arith, mem_left a l r)
 
 -- and so is what is on the second
 pub mem_right : (a : ℕ) (l r : List ℕ) → Mem a r → Mem a (l ++ r)
@@ -43,29 +38,26 @@ mem_right a (x ∷ l) r h = inr (mem_right a l r h)
 -- and nothing else
 pub mem_cases : (a : ℕ) (l r : List ℕ) → Mem a (l ++ r) → Mem a l ⊎ Mem a r
 mem_cases a [] r h = inr h
-mem_cases a (x ∷ l) r (inl e) = inl (inl e)
-mem_cases a (x ∷ l) r (inr h) = elim (mem_cases a l r h) [ inl p ↦ inl (inr p) | inr p ↦ inr p ]
+mem_cases a (x ∷ l) r h = grind (arith, mem_cases a l r)
 
 -- two lists without repeats that share nothing, joined, have no repeats
 pub once_join : (l r : List ℕ) → Once l → Once r → ((a : ℕ) → Mem a l → Mem a r → ⊥) → Once (l ++ r)
 once_join [] r p q d = q
 once_join (x ∷ l) r p q d = (
-  (λ h. elim (mem_cases x l r h) [ inl m ↦ p.0 m | inr m ↦ d x (inl refl) m ]),
+  (λ h. grind (arith, mem_cases x l r h, p.0, d x (inl refl))),
   once_join l r p.1 q (λ a m n. d a (inr m) n),
 )
 
 -- a pair in order on a joined list: in the first part, across, or in the second part
 pub before_cases : (l r : List ℕ) (a b : ℕ) → Before (l ++ r) a b → Before l a b ⊎ ((Mem a l × Mem b r) ⊎ Before r a b)
 before_cases [] r a b h = inr (inr h)
-before_cases (x ∷ l) r a b (inl p) = grind (arith, mem_cases b l r p.1)
-before_cases (x ∷ l) r a b (inr h) = grind (arith, before_cases l r a b h)
+before_cases (x ∷ l) r a b h = grind (arith, mem_cases b l r, before_cases l r a b)
 
 -- ---- ascending lists
 
 -- what is on a list of at most one number
 mem_one : (n : ℕ) (b : Bool) (a : ℕ) → Mem a (cond b (n ∷ []) []) → (n ≡ a) × (b ≡ true)
-mem_one n true a (inl e) = (e, refl)
-mem_one n true a (inr h) = absurd h
+mem_one n true a h = grind arith
 mem_one n false a h = absurd h
 
 -- that number is on it

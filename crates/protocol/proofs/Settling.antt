@@ -1,5 +1,5 @@
 -- A closing node settles its stage by the decision: its sheet goes on as the decided order says.
-use Rattle.std.proofs.Common.{◌≡◌, ℕ, suc, ◌<◌, Bool, true, false, ◌||◌, ◌⊎◌, ◌++◌, sym, refl, ap, ◌∙◌, inl}
+use Rattle.std.proofs.Common.{◌≡◌, ℕ, suc, ◌<◌, Bool, true, false, ◌⊎◌, ◌++◌, sym, refl, ap, ◌∙◌, inl}
 use Rattle.std.proofs.Common.{inr, arith}
 use Rattle.std.proofs.lemmas.Bool.{cases_Bool, cases_eq, both_ways}
 use Rattle.std.proofs.lemmas.Bool.{false≢true}
@@ -49,10 +49,6 @@ none_kept z s j = record {
   kept_from = λ x l h. absurd (false≢true h);
   kept_few = omega (arith, count_none z.n none (λ i l. refl));
 }
-
--- the delivered set after the settling is the past before it and the decision, since what was early is in the decision
-joined : (g e n c : Bool) → (e ≡ true → n ≡ true) → (((g || e) || n) || c) ≡ (g || (n || c))
-joined g e n c h = grind arith
 
 module _ {z : Size} {s t : State} (r : ℕ) (o : Ok z s) (c : Settles z s t r) where
   -- the node before the call
@@ -125,23 +121,14 @@ module _ {z : Size} {s t : State} (r : ℕ) (o : Ok z s) (c : Settles z s t r) w
   stage = record {
     first = omega arith;
     settled = settled_up e settled;
-    delivered_is = λ m. joined (N.delivered m) (N.early m) (NC m) (C m) (early m)
-        ∙ ap (λ (v : Bool). v || (NC m || C m)) (ok.stage.delivered_is m) ∙ sym (past_same e (suc N.stage) m settled);
+    delivered_is = λ m. grind (arith, early m, ok.stage.delivered_is m, past_same e (suc N.stage) m settled);
   }
 
   -- ---- the order on the new sheet
 
   -- a message of the old sheet was delivered in an earlier stage, or early in this one
-  data From (m : ℕ) : Type 0 where
-    before : m ∈ N.delivered → From m
-    in_stage : m ∈ N.early → m ∉ N.delivered → From m
-
-  -- one of the two
-  from : (m : ℕ) → Mem m N.sheet → From m
-  from m h = elim (cases_Bool (N.delivered m)) [
-    | inl g ↦ before g
-    | inr g ↦ elim (ok.sheet.has m h) [ inl p ↦ before p | inr p ↦ in_stage p g ]
-  ]
+  from : (m : ℕ) → Mem m N.sheet → (m ∈ N.delivered) ⊎ ((m ∈ N.early) × (m ∉ N.delivered))
+  from m h = grind (arith, cases_Bool (N.delivered m), ok.sheet.has m h)
 
   -- what it has not delivered is not past
   new : (m : ℕ) → m ∉ N.delivered → m ∉ past t N.stage
@@ -185,8 +172,8 @@ module _ {z : Size} {s t : State} (r : ℕ) (o : Ok z s) (c : Settles z s t r) w
     ordered_first h = elim (before_cases N.sheet (ascending 64 A) a b h) [
       | inl p ↦ (sheet_up e ok.sheet).ordered a b k p
       | inr (inl p) ↦ elim (from a p.0) [
-        | before g ↦ before_new g (first_parts b p.1).1
-        | in_stage f g ↦ both_first (early a f) (first_parts b p.1).0
+        | inl g ↦ before_new g (first_parts b p.1).1
+        | inr g ↦ both_first (early a g.0) (first_parts b p.1).0
       ]
       | inr (inr p) ↦ let w = before_mem (ascending 64 A) a b p in both_first (first_parts a w.0).0 (first_parts b w.1).0
     ]
@@ -197,8 +184,8 @@ module _ {z : Size} {s t : State} (r : ℕ) (o : Ok z s) (c : Settles z s t r) w
       | inl p ↦ ordered_first p
       | inr (inl p) ↦ elim (mem_cases a N.sheet (ascending 64 A) p.0) [
         | inl q ↦ elim (from a q) [
-          | before g ↦ before_new g (then_parts b p.1).1
-          | in_stage f g ↦ first_then (early a f) g p.1
+          | inl g ↦ before_new g (then_parts b p.1).1
+          | inr g ↦ first_then (early a g.0) g.1 p.1
         ]
         | inr q ↦ first_then (first_parts a q).0 (first_parts a q).1 p.1
       ]
@@ -216,63 +203,62 @@ module _ {z : Size} {s t : State} (r : ℕ) (o : Ok z s) (c : Settles z s t r) w
   once = once_join (N.sheet ++ ascending 64 A) (ascending 64 B)
       (once_join N.sheet (ascending 64 A) ok.sheet.once (ascending_once 64 A)
       (λ m p q. not_old m p (first_parts m q).1 (first_parts m q).2)) (ascending_once 64 B)
-      (λ m p q. elim (mem_cases m N.sheet (ascending 64 A) p) [
-        | inl u ↦ not_old m u (then_parts m q).1 (then_parts m q).2
-        | inr u ↦ both_ways (NC m) (then_parts m q).3 (first_parts m u).0
-      ])
+      (λ m p q. grind (
+        arith,
+        mem_cases m N.sheet (ascending 64 A) p,
+        not_old m,
+        first_parts m,
+        then_parts m q,
+      ))
 
-  -- where a message of the new sheet comes from
-  data On (m : ℕ) : Type 0 where
-    on_old : Mem m N.sheet → On m
-    on_first : Mem m (ascending 64 A) → On m
-    on_then : Mem m (ascending 64 B) → On m
-
-  -- from one of the three
-  on : (m : ℕ) → Mem m N'.sheet → On m
-  on m h = elim (mem_cases m (N.sheet ++ ascending 64 A) (ascending 64 B) h) [
-    | inl p ↦ elim (mem_cases m N.sheet (ascending 64 A) p) [ inl q ↦ on_old q | inr q ↦ on_first q ]
-    | inr p ↦ on_then p
-  ]
-
-  -- and all of them are on it
-  from_on : (m : ℕ) → On m → Mem m N'.sheet
-  from_on m (on_old h) = mem_left m (N.sheet ++ ascending 64 A) (ascending 64 B) (mem_left m N.sheet (ascending 64 A) h)
-  from_on m (on_first h) = mem_left m (N.sheet ++ ascending 64 A) (ascending 64 B) (mem_right m N.sheet (ascending 64 A) h)
-  from_on m (on_then h) = mem_right m (N.sheet ++ ascending 64 A) (ascending 64 B) h
-
-  -- it is delivered
-  into_delivered : (m : ℕ) → On m → m ∈ N'.delivered
-  into_delivered m (on_old h) = grind (arith, ok.sheet.has m h)
-  into_delivered m (on_first h) = grind (arith, (first_parts m h).0)
-  into_delivered m (on_then h) = grind (arith, (then_parts m h).0)
+  -- all that is on it is delivered
+  into_delivered : (m : ℕ) → Mem m N'.sheet → m ∈ N'.delivered
+  into_delivered m h = grind (
+    arith,
+    mem_cases m (N.sheet ++ ascending 64 A) (ascending 64 B) h,
+    mem_cases m N.sheet (ascending 64 A),
+    ok.sheet.has m,
+    first_parts m,
+    then_parts m,
+  )
 
   -- and every delivered message is on it
-  has_delivered : (m : ℕ) → m ∈ N'.delivered → On m
-  has_delivered m h = elim (cases_Bool (N.delivered m)) [
-    | inl g ↦ on_old (ok.sheet.has_delivered m g)
-    | inr g ↦ elim (cases_Bool (N.early m)) [
-      | inl f ↦ on_old (ok.sheet.has_early m f)
-      | inr f ↦ elim (cases_Bool (NC m)) [
-        | inl p ↦ on_first (mem_ascending 64 A m (omega (arith, known m (inl p), o.book.messages_le)) (grind arith))
-        | inr p ↦ on_then (mem_ascending 64 B m (omega (arith, known m (inr (grind arith)), o.book.messages_le)) (grind arith))
-      ]
-    ]
-  ]
+  has_delivered : (m : ℕ) → m ∈ N'.delivered → Mem m N'.sheet
+  has_delivered m h = grind (
+    arith,
+    ok.sheet.has_delivered m,
+    ok.sheet.has_early m,
+    known m,
+    o.book.messages_le,
+    mem_ascending 64 A m,
+    mem_ascending 64 B m,
+    mem_left m N.sheet (ascending 64 A),
+    mem_right m N.sheet (ascending 64 A),
+    mem_left m (N.sheet ++ ascending 64 A) (ascending 64 B),
+    mem_right m (N.sheet ++ ascending 64 A) (ascending 64 B),
+  )
 
   -- it was broadcast
-  on_known : (m : ℕ) → On m → m < t.messages
-  on_known m (on_old h) = (sheet_up e ok.sheet).known m h
-  on_known m (on_first h) = omega (arith, e.messages_le, known m (inl (first_parts m h).0))
-  on_known m (on_then h) = omega (arith, e.messages_le, known m (inr (then_parts m h).0))
+  on_known : (m : ℕ) → Mem m N'.sheet → m < t.messages
+  on_known m h = grind (
+    arith,
+    mem_cases m (N.sheet ++ ascending 64 A) (ascending 64 B) h,
+    mem_cases m N.sheet (ascending 64 A),
+    (sheet_up e ok.sheet).known m,
+    known m,
+    first_parts m,
+    then_parts m,
+    e.messages_le,
+  )
 
   -- the part on the sheet
   sheet : SheetOk t N'.delivered none N'.sheet
   sheet = record {
     once = once;
-    has = λ m h. inl (into_delivered m (on m h));
-    has_delivered = λ m h. from_on m (has_delivered m h);
+    has = λ m h. inl (into_delivered m h);
+    has_delivered = has_delivered;
     has_early = λ m h. absurd (false≢true h);
-    known = λ m h. on_known m (on m h);
+    known = on_known;
     ordered = ordered;
   }
 
