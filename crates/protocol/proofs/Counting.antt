@@ -1,7 +1,7 @@
 -- How many numbers below n are in a set, and that quorums meet. Each law is a recursion on n.
 use Rattle.std.proofs.Common.{◌≡◌, ℕ, zero, suc, ◌+◌, ◌<◌, ◌≤◌, true, ◌&&◌, ltb, refl, ap, ◌∙◌}
 use Rattle.std.proofs.Common.{inl, inr, arith}
-use Rattle.std.proofs.lemmas.Bool.{false≢true, cases_Bool, cases_lt, cases_eq, and_parts, and_from}
+use Rattle.std.proofs.lemmas.Bool.{false≢true, cases_Bool, cases_lt, cases_eq, and_from}
 use Rattle.std.proofs.lemmas.Bool.{eq-eqb, ne_eqb, eqb-true, ltb-true, lt-ltb}
 use Rattle.protocol.specs.Sets.{Set, ◌∈◌, ◌∉◌, count, none, only, ◌∩◌, ◌∪◌}
 
@@ -85,8 +85,7 @@ Common n f g = (i : ℕ) × (i < n) × (i ∈ f) × (i ∈ g)
 pub quorums_meet_in : (n : ℕ) (f g h : Set) → Within n f h → Within n g h → count n h < count n f + count n g → Common n f g
 quorums_meet_in n f g h p q l =
     let w = count_one n (f ∩ g) (omega (arith, count_meet_in n f g h p q)) in
-    let b = and_parts (f w.0) (g w.0) w.2 in
-    (w.0, w.1, b.0, b.1)
+    (w.0, w.1, grind (arith, w.2), grind (arith, w.2))
 
 -- two sets of nodes that have together more than n have a node in common
 pub quorums_meet : (n : ℕ) (f g : Set) → n < count n f + count n g → Common n f g
@@ -126,27 +125,27 @@ Lowest n f k = (r : ℕ) × (r < n) × (r ∈ f) × ((x : ℕ) → x < n → x �
 -- from a member on, it goes to lower and lower ones
 descend : (n : ℕ) (f : Set) (k : ℕ → ℕ) (d r : ℕ) → k r < d → r < n → r ∈ f → Lowest n f k
 descend n f k zero r b l e = absurd (omega arith)
-descend n f k (suc d) r b l e = elim (cases_lt 0 (count n (λ x. f x && ltb (k x) (k r)))) [
+descend n f k (suc d) r b l e = elim (cases_lt 0 (count n lower)) [
   | inl c ↦ (
-      let w = count_one n (λ x. f x && ltb (k x) (k r)) c in
-      let p = and_parts (f w.0) (ltb (k w.0) (k r)) w.2 in
-      descend n f k d w.0 (omega (arith, ltb-true (k w.0) (k r) p.1)) w.1 p.0
+      let w = count_one n lower c in
+      descend n f k d w.0 (omega (arith, ltb-true (k w.0) (k r) (grind (arith, w.2)))) w.1 (grind (arith, w.2))
       )
-  | inr c ↦ (
-    r,
-    l,
-    e,
-    λ x lx ex. elim (cases_lt (k x) (k r)) [
+  | inr c ↦ (r, l, e, none_lower c)
+]
+  where
+    lower : Set
+    lower x = f x && ltb (k x) (k r)
+
+    none_lower : count n lower ≤ 0 → (x : ℕ) → x < n → x ∈ f → k r ≤ k x
+    none_lower c x lx ex = elim (cases_lt (k x) (k r)) [
       | inl v ↦ absurd (omega (
         arith,
         c,
-        count_more n none (λ y. f y && ltb (k y) (k r)) (λ i w h. absurd (false≢true h)) x lx
-            refl (and_from (f x) (ltb (k x) (k r)) ex (lt-ltb (k x) (k r) v)),
+        count_more n none lower (λ i w h. absurd (false≢true h)) x lx refl
+            (and_from (f x) (ltb (k x) (k r)) ex (lt-ltb (k x) (k r) v)),
       ))
       | inr v ↦ v
-    ],
-  )
-]
+    ]
 
 -- a set that counts has a member at which k is lowest
 pub lowest : (n : ℕ) (f : Set) (k : ℕ → ℕ) → 0 < count n f → Lowest n f k

@@ -1,5 +1,5 @@
 -- Lists of numbers: joined lists, lists in ascending order, and what stands before what.
-use Rattle.std.proofs.Common.{◌≡◌, ℕ, zero, suc, ◌<◌, Bool, true, false, cond, ◌⊎◌, List, [], ◌∷◌, ◌++◌, sym, refl, ◌∙◌}
+use Rattle.std.proofs.Common.{◌≡◌, ℕ, zero, suc, ◌<◌, Bool, true, false, cond, ◌⊎◌, List, [], ◌∷◌, ◌++◌, sym, refl}
 use Rattle.std.proofs.Common.{subst, inl, inr, arith}
 use Rattle.std.proofs.lemmas.Bool.{cases_eq, false≢true}
 use Rattle.protocol.specs.Sets.{Set, ◌∈◌}
@@ -15,8 +15,7 @@ before_mem (v ∷ l) x y b = grind (arith, before_mem l x y)
 -- nothing stands before itself on a list without repeats
 pub before_apart : (l : List ℕ) (x y : ℕ) → Once l → Before l x y → x ≡ y → ⊥
 before_apart [] x y o b e = b
-before_apart (v ∷ l) x y o (inl p) e = o.0 (subst (λ (w : ℕ). Mem w l) (sym (p.0 ∙ e)) p.1)
-before_apart (v ∷ l) x y o (inr b) e = before_apart l x y o.1 b e
+before_apart (v ∷ l) x y o b e = grind (arith, o, b, before_apart l x y o.1)
 
 -- of two different numbers on a list, one stands before the other
 pub before_one : (l : List ℕ) (x y : ℕ) → (x ≡ y → ⊥) → Mem x l → Mem y l → Before l x y ⊎ Before l y x

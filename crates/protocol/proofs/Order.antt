@@ -83,7 +83,7 @@ module _ {z : Size} {s : State} (o : Ok z s) where
   tally_free : (j a b : ℕ) (M : Set) → Tallied z s j M → a ∈ M → b ∈ M → s.conflict a b ≡ false
   tally_free j a b M t p q =
       let m = quorums_meet_in z.n (λ x. t.voters x && t.votes x a) (λ x. t.voters x && t.votes x b) t.voters
-      (λ i l e. (and_parts (t.voters i) (t.votes i a) e).0) (λ i l e. (and_parts (t.voters i) (t.votes i b) e).0)
+      (λ i l e. grind arith) (λ i l e. grind arith)
       (omega (arith, t.most a p, t.most b q, t.full)) in
       let u = and_parts (t.voters m.0) (t.votes m.0 a) m.2 in
       let v = and_parts (t.voters m.0) (t.votes m.0 b) m.3 in

@@ -194,19 +194,15 @@ module _ {z : Size} {s t : State} (r : ℕ) (o : Ok z s) (c : Settles z s t r) w
 
   -- ---- what is on the new sheet
 
-  -- what is new is not on the old sheet
-  not_old : (m : ℕ) → Mem m N.sheet → m ∉ N.delivered → m ∉ N.early → ⊥
-  not_old m h g f = grind (arith, ok.sheet.has m h)
-
   -- nothing comes twice
   once : Once N'.sheet
   once = once_join (N.sheet ++ ascending 64 A) (ascending 64 B)
       (once_join N.sheet (ascending 64 A) ok.sheet.once (ascending_once 64 A)
-      (λ m p q. not_old m p (first_parts m q).1 (first_parts m q).2)) (ascending_once 64 B)
+      (λ m p q. grind (arith, ok.sheet.has m p, first_parts m q))) (ascending_once 64 B)
       (λ m p q. grind (
         arith,
         mem_cases m N.sheet (ascending 64 A) p,
-        not_old m,
+        ok.sheet.has m,
         first_parts m,
         then_parts m q,
       ))
