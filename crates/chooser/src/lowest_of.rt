@@ -63,7 +63,7 @@ impl Ruled<Lowest> {
     pub fn new(need: u8) -> Result<Self, Refusal>
         ensures { Makes (λ x. lowest_of x.rule.need x.log) need result }
     {
-        if need == 0 || need > HIGHEST_NEED {
+        if !(1..=HIGHEST_NEED).contains(&need) {
             return Err(Refusal::NeedOutOfRange);
         }
         Ok(Ruled::by(Lowest { need }))

@@ -7,17 +7,16 @@ use super::stage::Stage;
 use crate::proposal::Proposal;
 use crate::refusal::Refusal;
 
-const STAGES: u32 = 32;
+const STAGES: u8 = 32;
 
 // Where a stage stands in the log.
 fn place_of(stage: u32) -> Result<usize, Refusal>
     ensures { result ≡ asked stage (stage - 1) }
 {
-    if stage < 1 || stage > STAGES {
-        return Err(Refusal::NoSuchStage);
+    match u8::try_from(stage) {
+        Ok(stage @ 1..=STAGES) => Ok(usize::from(stage) - 1),
+        _ => Err(Refusal::NoSuchStage),
     }
-    // Stays: there is no From<u32> for usize, and a TryFrom would add a refusal that never comes.
-    Ok(stage as usize - 1)
 }
 
 impl Log {
