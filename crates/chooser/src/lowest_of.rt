@@ -22,7 +22,8 @@ pub struct Lowest {
 }
 
 // The place of the proposal whose node is the lowest.
-// Stays: what min_by_key promises in one fact is that no node is lower, and not that the place is the first such.
+// Stays: tried with min_by_key by the pair of node and place; it stayed open that a place whose pair no other's is
+// below is the one that `lowest` gives.
 #[tactic(auto, using(crate::specs::Rules::lowest_next, crate::specs::Rules::lowest_end))]
 fn lowest_place(proposals: &[Proposal]) -> usize
     ensures { result ≡ lowest proposals.now }

@@ -56,6 +56,14 @@ those_in p k t = those_more p k ∙ cond-true (p k) _ _ t
 pub those_out : (p : ℕ → Bool) (k : ℕ) → p k ≡ false → those p (k + 1) ≡ those p k
 those_out p k t = those_more p k ∙ cond-false (p k) _ _ t
 
+-- two tests that tell the same have one set
+pub those_same : (p q : ℕ → Bool) (k : ℕ) → ((m : ℕ) → p m ≡ q m) → those p k ≡ those q k
+unfolding those
+those_same p q zero e = refl
+those_same p q (suc k) e =
+    let before = those_same p q k e in
+    let last = e k in cc
+
 -- ---- the members of a set
 
 -- one number more

@@ -1,16 +1,17 @@
 -- One turn of the loops that take a letter.
-use Rattle.std.proofs.Common.{◌≡◌, ℕ, zero, suc, ◌+◌, ◌≤◌, Bool, true, false, cond, ◌||◌, eqb, List, length, get_or, set, take}
+use Rattle.std.proofs.Common.{◌≡◌, ℕ, zero, suc, ◌+◌, ◌≤◌, Bool, true, false, cond, ◌||◌, ◌/◌, eqb, leb, ltb, List, length, get_or, set, take}
 use Rattle.std.proofs.Common.{sym, refl, ap, ◌∙◌}
 use Rattle.std.proofs.Common.{add-one, ◌++◌, ◌∷◌, [], arith}
 use Rattle.std.specs.List.{list_any, count_by, sum_by}
-use Rattle.std.proofs.lemmas.List.{take_more}
+use Rattle.std.proofs.lemmas.List.{take_more, length-take-le}
 use Rattle.std.proofs.lemmas.List.Folds.{list_any-append}
 use Rattle.std.proofs.lemmas.List.Sums.{sum_by_more}
-use Rattle.rows.specs.Masks.{has, added}
+use Rattle.rows.specs.Masks.{has, added, those}
 use Rattle.rows.specs.Rows.{no_check}
 use Rattle.rows.specs.Receipts.{heard_from, from_sender}
-use Rattle.rows.specs.Proposals.{holding}
+use Rattle.rows.specs.Proposals.{holding, in_majority, majority}
 use Rattle.rows.specs.declared.row.Check.{Check}
+use Rattle.rows.proofs.Masks.{those_same}
 use Rattle.std.proofs.lemmas.Bool.{cond-true, cond-false}
 use mathlib.Core.Bool.{or-false}
 
@@ -63,6 +64,15 @@ holding_first cs m (suc k) h =
     let more : sum_by held (take (suc k) cs) ≡ sum_by held (take k cs) + held (get_or cs k no_check) =
     rw add-one at (sum_by_more held cs k no_check (omega arith)) in
     ap (λ n. n + held (get_or cs k no_check)) (holding_first cs m k (omega arith)) ∙ sym more
+
+-- the messages in most of the first checks, as a slice of them tells
+pub most_first : (cs : List Check) (q : ℕ) → q ≤ length cs
+    → majority cs q ≡ those (λ m. ltb (length (take q cs) / 2) (count_by (λ (c : Check). has c.set m) (take q cs))) 64
+most_first cs q h =
+    let held : ℕ → ℕ = λ m. count_by (λ (c : Check). has c.set m) (take q cs) in
+    let e : length (take q cs) ≡ q = length-take-le q cs h in
+    those_same (in_majority cs q) (λ m. ltb (length (take q cs) / 2) (held m)) 64
+    (λ m. ap (leb (q / 2 + 1)) (holding_first cs m q h) ∙ rw add-one refl ∙ ap (λ k. ltb (k / 2) (held m)) (sym e))
 
 -- a last test that fails adds nothing
 pub or_last : (x y : Bool) → y ≡ false → (x || y) ≡ x

@@ -2,11 +2,11 @@
 use Rattle.std.specs.Prelude.{◌≡◌, ℕ, zero, suc, ◌+◌, ◌^◌, Bool, true, false, cond, not, ◌||◌, List, length, set, Ok, Err, Result}
 use Rattle.std.specs.Prelude.{◌==◌, count_ones, nat_le, nat_lt}
 use Rattle.rows.specs.declared.letter.Letter.{Letter}
+use Rattle.record.specs.declared.record_kind.NoSuchKind.{NoSuchKind}
 use Rattle.rows.specs.declared.letter.LetterKind.{LetterKind}
 use Rattle.rows.specs.declared.letter.LetterKind.TheVariants.{Data, Acknowledgement, Check}
 use Rattle.rows.specs.declared.letter.Mark.{Mark}
 use Rattle.rows.specs.declared.letter.Mark.TheVariants.{Empty, Travelling, Taken, Lost}
-use Rattle.rows.specs.declared.letter.UnknownKind.{UnknownKind}
 use Rattle.rows.specs.declared.refusal.Refusal.{Refusal}
 use Rattle.rows.specs.declared.refusal.Refusal.TheVariants.{TrayFull}
 
@@ -48,7 +48,7 @@ mark_number Taken = taken
 mark_number Lost = lost
 
 -- the kind of a number, or that it is of none
-abbrev pub IsKind : ℕ → Result LetterKind UnknownKind → Type 0
+abbrev pub IsKind : ℕ → Result LetterKind NoSuchKind → Type 0
 IsKind n (Ok k) = n ≡ kind_number k
 IsKind n (Err e) = (e.0 ≡ n) × ((nat_lt n data_letter || nat_lt check_letter n) ≡ true)
 

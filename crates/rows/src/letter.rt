@@ -2,6 +2,8 @@ ghost use Rattle.std.specs.Prelude.{◌≡◌, ◌^◌, nat_le};
 ghost use Rattle.rows.specs.Letters.{acknowledgement, check_letter, data_letter, letter_of, spoilt};
 ghost use Rattle.rows.specs.Letters.{kind_number, mark_number, IsKind};
 
+use record::record_kind::NoSuchKind;
+
 // The kinds of letters, by the numbers that letters have for them.
 #[derive(Clone, Copy, Debug, PartialEq, Eq)]
 pub enum LetterKind {
@@ -36,10 +38,6 @@ pub const TAKEN: u8 = Mark::Taken as u8;
 
 pub const LOST: u8 = Mark::Lost as u8;
 
-// A number that is of no kind of letter.
-#[derive(Clone, Copy, Debug, PartialEq, Eq)]
-pub struct UnknownKind(pub u8);
-
 impl From<LetterKind> for u8 {
     ghost from_gives = { λ k r. r ≡ kind_number k };
 
@@ -49,16 +47,16 @@ impl From<LetterKind> for u8 {
 }
 
 impl TryFrom<u8> for LetterKind {
-    type Error = UnknownKind;
+    type Error = NoSuchKind;
 
     ghost try_from_gives = { IsKind };
 
-    fn try_from(number: u8) -> Result<LetterKind, UnknownKind> {
+    fn try_from(number: u8) -> Result<LetterKind, NoSuchKind> {
         match number {
             DATA => Ok(LetterKind::Data),
             ACKNOWLEDGEMENT => Ok(LetterKind::Acknowledgement),
             CHECK => Ok(LetterKind::Check),
-            _ => Err(UnknownKind(number)),
+            _ => Err(NoSuchKind(u16::from(number))),
         }
     }
 }

@@ -4,7 +4,8 @@ ghost use Rattle.rows.specs.Masks.{has, minus, within, members, put, those};
 // How many messages a mask has room for.
 pub(crate) const MOST_MESSAGES: u8 = 64;
 
-// Stays functions on u64: the masks in rows and letters are public numbers, and a type of sets would only wrap them.
+// Stays functions on u64: the masks in rows and letters are public numbers, and with a type of sets
+// `MessageSet(self.received).without(MessageSet(self.delivered)).0` stands for `without(self.received, self.delivered)`.
 
 // Whether the set has i.
 pub(crate) fn has_bit(set: u64, i: u8) -> bool
@@ -53,7 +54,8 @@ fn append(sheets: &mut [u8], place: usize, set: u64)
 }
 
 // Writes the members of the set on the sheet that begins at place 64 `at`, behind the messages that it has.
-// Stays two parameters, all sheets and which of them: both are handed in by the caller, and no other function uses them.
+// Stays two parameters, all sheets and which of them: `Row::take` and `Row::settle` are public and are lent both, so a
+// struct of them would be made in each of the two for one or two calls.
 pub(crate) fn extend_sheet(sheets: &mut [u8], at: u8, written: u64, set: u64)
     ensures { sheets.new ≡ put sheets.old (64 * at + count_ones written) (members set 64) }
 {

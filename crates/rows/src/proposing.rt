@@ -22,7 +22,7 @@ impl Row {
         if self.checked < size.q {
             return Err(Refusal::TooFewChecks);
         }
-        let nonconflicting = in_most(&self.checks, size.q);
+        let nonconflicting = in_most(&self.checks[..usize::from(size.q)]);
         let conflicting = without(self.undelivered(), nonconflicting);
         chooser.propose(self.stage, node, (nonconflicting, conflicting))?;
         self.phase = Phase::Waiting;

@@ -21,6 +21,7 @@ pub struct Check {
 }
 
 // What one node knows. Sets of messages are masks, message m as bit m; sets of nodes likewise.
+// Stays masks: these are public fields, and a type of sets around each makes every use longer (mask.rt).
 #[derive(Clone, Copy)]
 pub struct Row {
     // the stage that it is in, from 1 on

@@ -10,7 +10,7 @@ impl RingSize {
     pub fn new(n: u16, q: u16) -> Result<RingSize, Refusal>
         ensures { Sized n q result }
     {
-        if n == 0 || n > MOST_NODES {
+        if !(1..=MOST_NODES).contains(&n) {
             return Err(Refusal::NodesOutOfRange);
         }
         if q > n {

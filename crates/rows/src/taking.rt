@@ -1,7 +1,8 @@
-ghost use Rattle.std.specs.Prelude.{◌≡◌, ◌+◌, ◌*◌, ◌<◌, ◌≤◌, length, slice_index};
+ghost use Rattle.std.specs.List.{list_any};
+ghost use Rattle.std.specs.Prelude.{◌≡◌, ◌<◌, ◌==◌, slice_index};
 ghost use Rattle.rows.specs.Masks.{put, members};
 ghost use Rattle.rows.specs.Rows.{on_sheet, sheet_end};
-ghost use Rattle.rows.specs.Receipts.{heard_from, from_sender, after_check, after_hearing, newly, taken_row, taken_sheets};
+ghost use Rattle.rows.specs.Receipts.{heard_from, after_check, after_hearing, newly, taken_row, taken_sheets};
 ghost use Rattle.rows.specs.Receipts.{from_another, relays};
 
 use crate::letter::{Letter, LetterKind};
@@ -22,12 +23,11 @@ fn hear(heard: &mut [u8; 64], sender: u8, set: u64)
     }
 }
 
-// Whether one of the first k checks is from the sender.
-fn has_check(checks: &[Check; 7], sender: u8, k: u8) -> bool
-    requires { k ≤ 7 }
-    ensures { result ≡ from_sender checks.now sender k }
+// Whether one of the checks is from the sender.
+fn has_check(checks: &[Check], sender: u8) -> bool
+    ensures { result ≡ list_any (λ c. c.sender == sender) checks.now }
 {
-    checks[..usize::from(k)].iter().any(|c| c.sender == sender)
+    checks.iter().any(|c| c.sender == sender)
 }
 
 // The node that broadcast the message.
@@ -58,11 +58,13 @@ impl Row {
     }
 
     // Keeps the check of a letter while there are fewer than q and none from its sender.
+    #[tactic(auto, using(crate::proofs::Receiving::from_first))]
     fn keep_check(&mut self, size: RingSize, letter: Letter)
         ensures { self.new ≡ after_check size.q letter self.old }
     {
-        if self.checked < size.q && !has_check(&self.checks, letter.sender, self.checked) {
-            self.checks[usize::from(self.checked)] = Check {
+        let kept = usize::from(self.checked);
+        if self.checked < size.q && !has_check(&self.checks[..kept], letter.sender) {
+            self.checks[kept] = Check {
                 sender: letter.sender,
                 set: letter.set,
             };

@@ -1,7 +1,6 @@
-ghost use Rattle.std.specs.Prelude.{◌≡◌, ◌≤◌, count_by};
-ghost use Rattle.rows.specs.Masks.{has};
+ghost use Rattle.std.specs.Prelude.{◌≡◌, ◌/◌, count_by, length, nat_lt};
+ghost use Rattle.rows.specs.Masks.{has, those};
 ghost use Rattle.rows.specs.Receipts.{reached};
-ghost use Rattle.rows.specs.Proposals.{majority};
 
 use crate::mask::{all_that, has_bit};
 use crate::row::Check;
@@ -20,11 +19,9 @@ fn holders(checks: &[Check], m: u8) -> usize
     checks.iter().filter(|c| has_bit(c.set, m)).count()
 }
 
-// The messages in more than half of the first q checks.
-pub(crate) fn in_most(checks: &[Check; 7], q: u8) -> u64
-    requires { q ≤ 7 }
-    ensures { result ≡ majority checks.now q }
+// The messages in more than half of the checks.
+pub(crate) fn in_most(checks: &[Check]) -> u64
+    ensures { result ≡ those (λ m. nat_lt (length checks.now / 2) (count_by (λ c. has c.set m) checks.now)) 64 }
 {
-    let first = &checks[..usize::from(q)];
-    all_that(|m| holders(first, m) > usize::from(q / 2))
+    all_that(|m| holders(checks, m) > checks.len() / 2)
 }
