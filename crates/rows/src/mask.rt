@@ -48,6 +48,8 @@ fn append(sheets: &mut [u8], place: usize, set: u64)
     ensures { sheets.new ≡ put sheets.old place (members set 64) }
 {
     let members = (0..MOST_MESSAGES).filter(|m| has_bit(set, *m));
+    // Stays by index: with sheets.iter_mut().skip(place) it stayed open that the places given out so far, written back,
+    // are `put`.
     for (at, m) in (place..sheets.len()).zip(members) {
         sheets[at] = m;
     }

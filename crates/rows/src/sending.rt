@@ -12,7 +12,8 @@ pub fn post(tray: &mut [Letter], used: usize, n: u8, letter: Letter) -> Result<(
     if used > tray.len() || tray.len() - used < usize::from(n) {
         return Err(Refusal::TrayFull);
     }
-    // Stays by number: each letter goes to the node whose number is its place behind the used ones.
+    // Stays by index: with (0..n).zip(tray[used..].iter_mut()) it stayed open that the places given out so far, written
+    // back, are `sent`.
     for i in 0..n {
         tray[used + usize::from(i)] = Letter {
             receiver: i,

@@ -16,6 +16,8 @@ fn hear(heard: &mut [u8; 64], sender: u8, set: u64)
     requires { sender < 8 }
     ensures { heard.new ≡ heard_from heard.old sender set 64 }
 {
+    // Stays a cast: with (0..MOST_MESSAGES).zip(heard.iter_mut()) it stayed open that the places given out so far,
+    // written back, are `heard_from`.
     for (m, nodes) in heard.iter_mut().enumerate() {
         if has_bit(set, m as u8) {
             *nodes |= 1u8 << sender;
