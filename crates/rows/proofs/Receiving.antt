@@ -1,6 +1,6 @@
 -- One turn of the loops that take a letter.
-use Rattle.std.proofs.Common.{◌≡◌, ℕ, zero, suc, ◌+◌, ◌≤◌, Bool, true, false, cond, ◌||◌, ◌/◌, eqb, leb, ltb, List, length, get_or, set, take}
-use Rattle.std.proofs.Common.{sym, refl, ap, ◌∙◌}
+use Rattle.std.proofs.Common.{◌≡◌, ℕ, zero, suc, ◌+◌, ◌≤◌, Bool, true, false, cond, ◌||◌, ◌/◌, eqb, leb, ltb, List}
+use Rattle.std.proofs.Common.{length, get_or, set, take, sym, refl, ap, ◌∙◌}
 use Rattle.std.proofs.Common.{add-one, ◌++◌, ◌∷◌, [], arith}
 use Rattle.std.specs.List.{list_any, count_by, sum_by}
 use Rattle.std.proofs.lemmas.List.{take_more, length-take-le}

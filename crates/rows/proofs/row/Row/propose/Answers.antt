@@ -7,5 +7,6 @@ pub returns : goal.returns
 returns g c =
     let checks = c.args.self.now.checks in
     let most : c.in_most-nonconflicting.result ≡ majority checks c.args.size.q =
-    c.in_most-nonconflicting.ensures ∙ sym (most_first checks c.from.result (omega arith)) ∙ ap (majority checks) c.from.ensures in
+    c.in_most-nonconflicting.ensures ∙ sym (most_first checks c.from.result (omega arith))
+    ∙ ap (majority checks) c.from.ensures in
     search rules
