@@ -32,7 +32,7 @@ impl Numbers {
 fn raised(amount: i16) -> u16
     ensures { result ≡ raised amount }
 {
-    (i32::from(amount) + 32_768) as u16
+    32_768_u16.saturating_add_signed(amount)
 }
 
 // The four numbers of a command.
@@ -61,10 +61,10 @@ fn limited(value: usize, limit: u16) -> Result<u16, WriteRefusal>
         (λ v. (v ≡ value) × (value ≤ limit))
         (λ f. (limit < value) × (f ≡ WriteRefusal.NumberAboveLimit)) }
 {
-    if value > usize::from(limit) {
-        return Err(WriteRefusal::NumberAboveLimit);
-    }
-    Ok(value as u16)
+    u16::try_from(value)
+        .ok()
+        .filter(|value| *value <= limit)
+        .ok_or(WriteRefusal::NumberAboveLimit)
 }
 
 // The number of a kind, and the one that follows it.

@@ -4,6 +4,7 @@ ghost use Rattle.schedule.specs.Drafts.{spelling};
 ghost use Rattle.schedule.specs.Laws.{ReadsBack};
 ghost use Rattle.schedule_write.specs.Outcomes.{outcome};
 
+use crate::group::group_count;
 use crate::numbers::{numbers_of, size_of};
 use crate::refusal::WriteRefusal;
 use schedule::draft::Draft;
@@ -27,12 +28,10 @@ fn put(front: &mut [u8], value: u16) -> usize
     let low = (value % 128) as u8;
     let middle = (value / 128 % 128) as u8;
     let high = (value / 128 / 128) as u8;
-    if value < 128 {
-        lay(front, &[low])
-    } else if value < 16_384 {
-        lay(front, &[128 + low, middle])
-    } else {
-        lay(front, &[128 + low, 128 + middle, high])
+    match group_count(value) {
+        1 => lay(front, &[low]),
+        2 => lay(front, &[128 + low, middle]),
+        _ => lay(front, &[128 + low, 128 + middle, high]),
     }
 }
 
