@@ -22,6 +22,17 @@ pub enum EntryKind {
     Lose = 5,
 }
 
+// The numbers of the kinds.
+const BROADCAST: u16 = EntryKind::Broadcast as u16;
+
+const RECEIVE: u16 = EntryKind::Receive as u16;
+
+const STEP: u16 = EntryKind::Step as u16;
+
+const CRASH: u16 = EntryKind::Crash as u16;
+
+const LOSE: u16 = EntryKind::Lose as u16;
+
 impl TryFrom<u16> for EntryKind {
     type Error = NoSuchKind;
 
@@ -29,11 +40,11 @@ impl TryFrom<u16> for EntryKind {
 
     fn try_from(number: u16) -> Result<EntryKind, NoSuchKind> {
         match number {
-            1 => Ok(EntryKind::Broadcast),
-            2 => Ok(EntryKind::Receive),
-            3 => Ok(EntryKind::Step),
-            4 => Ok(EntryKind::Crash),
-            5 => Ok(EntryKind::Lose),
+            BROADCAST => Ok(EntryKind::Broadcast),
+            RECEIVE => Ok(EntryKind::Receive),
+            STEP => Ok(EntryKind::Step),
+            CRASH => Ok(EntryKind::Crash),
+            LOSE => Ok(EntryKind::Lose),
             _ => Err(NoSuchKind(number)),
         }
     }

@@ -9,7 +9,7 @@ use record::command::Command;
 fn amount_of(raised: u16) -> i16
     ensures { result ≡ pos raised -ℤ pos 32768 }
 {
-    (i32::from(raised) - 32_768) as i16
+    i16::MIN.saturating_add_unsigned(raised)
 }
 
 impl<'a> Reader<'a> {

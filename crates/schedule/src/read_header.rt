@@ -21,6 +21,7 @@ impl<'a> Reader<'a> {
     }
 
     // The header at the place, which is then past it; a fault leaves the place where it was.
+    // Stays beside entry: what they share is the copy and the write back, around the one call that differs.
     pub fn header(&mut self) -> Result<Header, EntryFault>
         ensures value { left_at result self.new.place ≡
             header_at self.old.bytes.now self.old.place }
