@@ -3,6 +3,7 @@ ghost use Rattle.std.specs.Iterator.{YieldsFirstRef, item_count};
 ghost use Rattle.transcript.specs.Lines.{ends_line, lines_of};
 
 // The lines of a text, one after another. A newline ends a line, so that a last one opens no further line.
+// Stays: `split` gives one more line after a last newline, and its type, with a closure, has no name where lines are handed on.
 #[derive(Drop)]
 pub(crate) struct Lines<'a>(pub &'a [u8]);
 

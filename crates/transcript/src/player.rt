@@ -11,6 +11,7 @@ const ROUNDS: u32 = 20;
 const RAISED: i64 = 10_000;
 
 // A round that is kept of a player.
+// Stays beside record's Round: a told list may hold any numbers, which a day and an amount of that type can't.
 #[derive(Clone, Copy, Debug, PartialEq, Eq)]
 pub struct Round {
     pub day: u32,
@@ -62,10 +63,9 @@ impl fmt::Display for Player<'_> {
         if count == 0 {
             return Ok(());
         }
-        write!(f, "player {}: ", self.number)?;
-        for round in 0..count {
-            let before = if round == 0 { "" } else { ", " };
-            write!(f, "{before}{}", self.round(round))?;
+        write!(f, "player {}: {}", self.number, self.round(0))?;
+        for round in 1..count {
+            write!(f, ", {}", self.round(round))?;
         }
         writeln!(f)
     }

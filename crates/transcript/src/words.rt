@@ -3,6 +3,7 @@ ghost use Rattle.std.specs.Iterator.{YieldsFirstRef, item_count};
 ghost use Rattle.transcript.specs.Words.{is_blank, in_word, words_of};
 
 // The words of a line, one after another: the runs of bytes that are not blank.
+// Stays: no function can hand out `split` with `filter`, so both callers would have the chain and a proof of its words.
 #[derive(Drop)]
 pub(crate) struct Words<'a>(pub &'a [u8]);
 
