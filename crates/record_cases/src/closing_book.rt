@@ -1,4 +1,4 @@
-use crate::helpers::{after, command};
+use crate::helpers::{after, check_lawful, check_told, command};
 use record::closing_book::ClosingBook;
 use record::command::{Command, Unlawful};
 use record::kitty::Kitty;
@@ -18,19 +18,15 @@ fn close() -> Command {
 #[test]
 fn a_closed_book_leaves_the_list(rt: HostRuntime) -> Result<(), Fail> {
     let pay = command(1, 0, 0, 5);
-    let cases: [(&[Command], [u32; 2]); 6] = [
-        (&[], [0, 0]),
-        (&[pay], [0, 5]),
-        (&[pay, close()], [1, 5]),
-        (&[pay, close(), pay], [1, 5]),
-        (&[pay, close(), pay, open(), pay], [0, 10]),
-        (&[close(), close(), open(), open(), pay], [0, 5]),
+    let cases: [(&[Command], &[u32]); 6] = [
+        (&[], &[0, 0]),
+        (&[pay], &[0, 5]),
+        (&[pay, close()], &[1, 5]),
+        (&[pay, close(), pay], &[1, 5]),
+        (&[pay, close(), pay, open(), pay], &[0, 10]),
+        (&[close(), close(), open(), open(), pay], &[0, 5]),
     ];
-    for (commands, list) in cases {
-        let told = after::<Book>(commands).tell(rt.alloc())?;
-        assert_eq!(rt; told.as_slice(), list.as_slice());
-    }
-    Ok(())
+    check_told::<Book>(&rt, rt.alloc(), &cases)
 }
 
 #[test]
@@ -46,9 +42,7 @@ fn a_turn_is_lawful_with_zeros_alone(rt: HostRuntime) {
         (command(1, 0, 0, 0), false),
         (command(253, 0, 0, 0), false),
     ];
-    for (given, lawful) in cases {
-        assert_eq!(rt; <Book as Record>::is_lawful(given), lawful);
-    }
+    check_lawful::<Book>(&rt, &cases);
 }
 
 #[test]

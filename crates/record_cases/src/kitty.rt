@@ -1,4 +1,4 @@
-use crate::helpers::{after, command};
+use crate::helpers::{after, check_conflicts, check_lawful, check_told, command};
 use record::command::{Command, Unlawful};
 use record::kitty::Kitty;
 use record::record::Record;
@@ -14,19 +14,15 @@ fn draw(amount: i16) -> Command {
 
 #[test]
 fn a_draw_needs_its_amount(rt: HostRuntime) -> Result<(), Fail> {
-    let cases: [(&[Command], u32); 6] = [
-        (&[], 0),
-        (&[pay(50), draw(50)], 0),
-        (&[draw(50), pay(50)], 50),
-        (&[pay(50), draw(51)], 50),
-        (&[pay(30_000), pay(30_000), draw(1)], 59_999),
-        (&[pay(50), pay(30_001), command(3, 0, 0, 5)], 50),
+    let cases: [(&[Command], &[u32]); 6] = [
+        (&[], &[0]),
+        (&[pay(50), draw(50)], &[0]),
+        (&[draw(50), pay(50)], &[50]),
+        (&[pay(50), draw(51)], &[50]),
+        (&[pay(30_000), pay(30_000), draw(1)], &[59_999]),
+        (&[pay(50), pay(30_001), command(3, 0, 0, 5)], &[50]),
     ];
-    for (commands, balance) in cases {
-        let told = after::<Kitty>(commands).tell(rt.alloc())?;
-        assert_eq!(rt; told.as_slice(), [balance].as_slice());
-    }
-    Ok(())
+    check_told::<Kitty>(&rt, rt.alloc(), &cases)
 }
 
 // 143,165 payments of 30,000 make 4,294,950,000; the next would pass the maximum.
@@ -67,9 +63,7 @@ fn lawful_within_the_limits(rt: HostRuntime) {
         (command(1, 1, 0, 5), false),
         (command(1, 0, 1, 5), false),
     ];
-    for (given, lawful) in cases {
-        assert_eq!(rt; <Kitty as Record>::is_lawful(given), lawful);
-    }
+    check_lawful::<Kitty>(&rt, &cases);
 }
 
 #[test]
@@ -92,7 +86,5 @@ fn only_draws_conflict(rt: HostRuntime) {
         (pay(1), pay(0), true),
         (pay(0), pay(1), true),
     ];
-    for (a, b, conflict) in cases {
-        assert_eq!(rt; <Kitty as Record>::in_conflict(a, b), conflict);
-    }
+    check_conflicts::<Kitty>(&rt, &cases);
 }

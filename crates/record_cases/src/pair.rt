@@ -1,4 +1,4 @@
-use crate::helpers::{after, command};
+use crate::helpers::{after, check_told, command};
 use record::closing_book::ClosingBook;
 use record::command::Command;
 use record::kitty::Kitty;
@@ -13,10 +13,10 @@ type Club = Pair<Kitty, ClosingBook<Rounds>>;
 
 #[test]
 fn even_subjects_go_left_and_odd_ones_right(rt: HostRuntime) -> Result<(), Fail> {
-    let cases: [(&[Command], [u32; 2]); 4] = [
-        (&[], [0, 0]),
-        (&[command(1, 0, 0, 5)], [5, 0]),
-        (&[command(1, 1, 0, 5)], [0, 5]),
+    let cases: [(&[Command], &[u32]); 4] = [
+        (&[], &[0, 0]),
+        (&[command(1, 0, 0, 5)], &[5, 0]),
+        (&[command(1, 1, 0, 5)], &[0, 5]),
         // subjects 2 and 3 are subject 1 on their sides, which a kitty has not
         (
             &[
@@ -25,14 +25,10 @@ fn even_subjects_go_left_and_odd_ones_right(rt: HostRuntime) -> Result<(), Fail>
                 command(1, 3, 0, 5),
                 command(2, 0, 0, 4),
             ],
-            [5, 0],
+            &[5, 0],
         ),
     ];
-    for (commands, balances) in cases {
-        let told = after::<Kitties>(commands).tell(rt.alloc())?;
-        assert_eq!(rt; told.as_slice(), balances.as_slice());
-    }
-    Ok(())
+    check_told::<Kitties>(&rt, rt.alloc(), &cases)
 }
 
 #[test]

@@ -1,4 +1,4 @@
-use crate::helpers::{after, command};
+use crate::helpers::{after, check_conflicts, check_lawful, command};
 use record::command::Command;
 use record::record::Record;
 use record::rounds::Rounds;
@@ -84,9 +84,7 @@ fn lawful_within_the_limits(rt: HostRuntime) {
         (command(0, 0, 0, 0), false),
         (command(3, 0, 0, 0), false),
     ];
-    for (given, lawful) in cases {
-        assert_eq!(rt; <Rounds as Record>::is_lawful(given), lawful);
-    }
+    check_lawful::<Rounds>(&rt, &cases);
 }
 
 #[test]
@@ -99,8 +97,7 @@ fn adjustments_conflict_on_one_player(rt: HostRuntime) {
         (adjust(1, 5), adjust(2, 5), false),
         (post(1, 5, 5), post(8, 5, 5), true),
     ];
-    for (a, b, conflict) in cases {
-        assert_eq!(rt; <Rounds as Record>::in_conflict(a, b), conflict);
-        assert_eq!(rt; <Rounds as Record>::in_conflict(b, a), conflict);
-    }
+    check_conflicts::<Rounds>(&rt, &cases);
+    let turned = cases.map(|(a, b, conflict)| (b, a, conflict));
+    check_conflicts::<Rounds>(&rt, &turned);
 }
