@@ -3,32 +3,26 @@ use chooser::lowest_of::LowestOf;
 use chooser::refusal::Refusal;
 use std::test::Fail;
 
-fn number(answer: Result<(), Refusal>) -> u8 {
-    match answer {
-        Ok(()) => 0,
-        Err(refusal) => refusal.number(),
-    }
-}
-
-// Each row is a stage, a node and the number of the answer, 0 where the proposal is taken.
+// Each row is a stage, a node and the number of the refusal, if the proposal is refused.
 #[test]
 fn the_first_cause_is_answered(rt: HostRuntime) -> Result<(), Fail> {
     let cases = [
-        (0, 7, 31),
-        (33, 255, 31),
-        (4_294_967_295, 0, 31),
-        (1, 7, 32),
-        (32, 255, 32),
-        (1, 6, 0),
-        (1, 6, 33),
-        (0, 6, 31),
-        (32, 6, 0),
-        (1, 0, 0),
-        (1, 0, 33),
+        (0, 7, Some(31)),
+        (33, 255, Some(31)),
+        (4_294_967_295, 0, Some(31)),
+        (1, 7, Some(32)),
+        (32, 255, Some(32)),
+        (1, 6, None),
+        (1, 6, Some(33)),
+        (0, 6, Some(31)),
+        (32, 6, None),
+        (1, 0, None),
+        (1, 0, Some(33)),
     ];
     let mut chooser = LowestOf::new(3)?;
-    for (stage, node, answer) in cases {
-        assert_eq!(rt; number(chooser.propose(stage, node, (1, 1))), answer);
+    for (stage, node, number) in cases {
+        let refused = chooser.propose(stage, node, (1, 1)).err();
+        assert_eq!(rt; refused.map(|refusal| refusal.number()), number);
     }
     assert_eq!(rt; chooser.count(1), Ok(2));
     assert_eq!(rt; chooser.count(32), Ok(1));
