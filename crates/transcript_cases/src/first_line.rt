@@ -1,5 +1,5 @@
+use crate::helpers::check_texts;
 use std::test::Fail;
-use transcript::transcript;
 
 #[test]
 fn the_first_line_names_the_kind(rt: HostRuntime) -> Result<(), Fail> {
@@ -18,9 +18,5 @@ fn the_first_line_names_the_kind(rt: HostRuntime) -> Result<(), Fail> {
         (b"2\n", "no rounds\n"),
         (b"3\n", "balance 0\nbook open\nno rounds\n"),
     ];
-    for (input, want) in cases {
-        let text = transcript(rt.alloc(), input)?;
-        assert_eq!(rt; text.as_str(), want);
-    }
-    Ok(())
+    check_texts(&rt, rt.alloc(), &cases)
 }

@@ -1,3 +1,4 @@
+use crate::helpers::check_texts;
 use std::test::Fail;
 use transcript::transcript;
 
@@ -22,11 +23,7 @@ fn each_line_is_answered(rt: HostRuntime) -> Result<(), Fail> {
             "line 2: refused 10\nline 3: taken\nbalance 9\n",
         ),
     ];
-    for (input, want) in cases {
-        let text = transcript(rt.alloc(), input)?;
-        assert_eq!(rt; text.as_str(), want);
-    }
-    Ok(())
+    check_texts(&rt, rt.alloc(), &cases)
 }
 
 #[test]

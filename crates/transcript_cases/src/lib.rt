@@ -4,6 +4,8 @@
 #[cfg(test)]
 mod first_line;
 #[cfg(test)]
+mod helpers;
+#[cfg(test)]
 mod kinds;
 #[cfg(test)]
 mod numbers;
