@@ -1,10 +1,10 @@
+use crate::helpers::check_reports;
 use report::report::report_of;
 use std::test::Fail;
 
 // Days by a ring of one node, with First-come.
 #[test]
 fn one_node(rt: HostRuntime) -> Result<(), Fail> {
-    let heap = rt.alloc();
     let cases: [(&[u8], &str); 7] = [
         // no entry
         (&[1, 1, 1, 1], "node 0 stage 1 live\naccepted 0 refused 0\n"),
@@ -51,17 +51,12 @@ fn one_node(rt: HostRuntime) -> Result<(), Fail> {
             "node 0 stage 1 live\naccepted 0 refused 1\nfault 41 at 7\n",
         ),
     ];
-    for (bytes, text) in cases {
-        let got = report_of(heap, bytes)?;
-        assert_eq!(rt; got.as_str(), text);
-    }
-    Ok(())
+    check_reports(&rt, rt.alloc(), &cases)
 }
 
 // Days by several nodes.
 #[test]
 fn several_nodes(rt: HostRuntime) -> Result<(), Fail> {
-    let heap = rt.alloc();
     let cases: [(&[u8], &str); 3] = [
         // a crash, a letter to the crashed node that cannot be received and is lost, one that cannot be lost
         (
@@ -83,11 +78,7 @@ fn several_nodes(rt: HostRuntime) -> Result<(), Fail> {
             "node 0 stage 1 live\nnode 1 stage 1 live\naccepted 0 refused 1\nfault 44 at 20\n",
         ),
     ];
-    for (bytes, text) in cases {
-        let got = report_of(heap, bytes)?;
-        assert_eq!(rt; got.as_str(), text);
-    }
-    Ok(())
+    check_reports(&rt, rt.alloc(), &cases)
 }
 
 // Three nodes, of which the first delivers a payment early and the others nothing yet.

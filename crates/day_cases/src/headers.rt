@@ -1,10 +1,9 @@
-use report::report::report_of;
+use crate::helpers::check_reports;
 use std::test::Fail;
 
 // Headers that start no day: a fault in them, or numbers that make no ring.
 #[test]
 fn headers(rt: HostRuntime) -> Result<(), Fail> {
-    let heap = rt.alloc();
     let cases: [(&[u8], &str); 14] = [
         (&[], "fault 41 at 0\n"),
         (&[1, 1, 1], "fault 41 at 3\n"),
@@ -21,9 +20,5 @@ fn headers(rt: HostRuntime) -> Result<(), Fail> {
         (&[4, 2, 1, 1], "start 3\n"),
         (&[1, 0, 2, 1, 9], "start 3\n"),
     ];
-    for (bytes, text) in cases {
-        let got = report_of(heap, bytes)?;
-        assert_eq!(rt; got.as_str(), text);
-    }
-    Ok(())
+    check_reports(&rt, rt.alloc(), &cases)
 }

@@ -6,4 +6,6 @@ mod days;
 #[cfg(test)]
 mod headers;
 #[cfg(test)]
+mod helpers;
+#[cfg(test)]
 mod long;
