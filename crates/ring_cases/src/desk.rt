@@ -69,6 +69,7 @@ pub(crate) fn lend<'a>(
 }
 
 // The number of a refusal, and 0 for an accepted call.
+// Stays a number: the tables of calls and numbers read 0 for an accepted call.
 pub(crate) fn number_of<T: Drop>(answer: Result<T, Refusal>) -> u8 {
     match answer {
         Ok(_) => 0,
