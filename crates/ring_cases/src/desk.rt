@@ -10,6 +10,7 @@ use ring::tables::{Tables, TablesMut};
 use rows::letter::Letter;
 use rows::refusal::Refusal;
 use rows::size::RingSize;
+use std::process::Abort;
 
 // A ring over Kitty with First-come and tables of its own: a tray of 24 letters.
 #[derive(Drop)]
@@ -131,5 +132,19 @@ impl Desk {
     // The messages that a node delivered.
     pub(crate) fn sheet(&self, node: u8) -> Result<&[u8], Refusal> {
         self.ring.show(self.tables(), node)
+    }
+}
+
+// Makes each call, and sees that it answers its number.
+pub(crate) fn check_calls(rt: &impl Abort, desk: &mut Desk, cases: &[(Call, u8)]) {
+    for (call, number) in cases {
+        assert_eq!(rt; desk.call(*call), *number);
+    }
+}
+
+// Makes the calls, and sees that all answer one number.
+pub(crate) fn check_all(rt: &impl Abort, desk: &mut Desk, calls: &[Call], number: u8) {
+    for call in calls {
+        assert_eq!(rt; desk.call(*call), number);
     }
 }

@@ -94,9 +94,7 @@ fn places(rt: HostRuntime) -> Result<(), Fail> {
         (Call::Lose(1), 0),
         (Call::Receive(1), 14),
     ];
-    for (call, number) in cases {
-        assert_eq!(rt; desk.call(call), number);
-    }
+    check_calls(&rt, &mut desk, &cases);
     assert_eq!(rt; desk.tray[0].mark, 2);
     assert_eq!(rt; desk.tray[1].mark, 3);
     Ok(())
@@ -115,9 +113,7 @@ fn crashed_sender(rt: HostRuntime) -> Result<(), Fail> {
         (Call::Lose(3), 0),
         (Call::Lose(2), 0),
     ];
-    for (call, number) in cases {
-        assert_eq!(rt; desk.call(call), number);
-    }
+    check_calls(&rt, &mut desk, &cases);
     Ok(())
 }
 

@@ -15,9 +15,7 @@ fn never_started(rt: HostRuntime) {
         Call::Crash(0),
         Call::Lose(0),
     ];
-    for call in calls {
-        assert_eq!(rt; desk.call(call), 7);
-    }
+    check_all(&rt, &mut desk, &calls, 7);
     assert_eq!(rt; number_of(desk.ring.stage(0)), 7);
     assert_eq!(rt; number_of(desk.ring.is_live(0)), 7);
     assert_eq!(rt; number_of(desk.sheet(0)), 7);
@@ -39,9 +37,7 @@ fn causes_of_a_node(rt: HostRuntime) -> Result<(), Fail> {
         (Call::Step(2), 9),
         (Call::Broadcast(0, PAY), 0),
     ];
-    for (call, number) in cases {
-        assert_eq!(rt; desk.call(call), number);
-    }
+    check_calls(&rt, &mut desk, &cases);
     assert_eq!(rt; desk.ring.is_live(2)?, false);
     assert_eq!(rt; desk.ring.is_live(1)?, true);
     assert_eq!(rt; number_of(desk.ring.is_live(3)), 8);
@@ -66,9 +62,7 @@ fn full_tray(rt: HostRuntime) -> Result<(), Fail> {
         (Call::Receive(1), 9),
         (Call::Lose(1), 0),
     ];
-    for (call, number) in cases {
-        assert_eq!(rt; desk.call(call), number);
-    }
+    check_calls(&rt, &mut desk, &cases);
     Ok(())
 }
 

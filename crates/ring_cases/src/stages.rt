@@ -26,9 +26,7 @@ fn early(rt: HostRuntime) -> Result<(), Fail> {
         (Call::Receive(9), 0),
         (Call::Receive(12), 0),
     ];
-    for (call, number) in cases {
-        assert_eq!(rt; desk.call(call), number);
-    }
+    check_calls(&rt, &mut desk, &cases);
     assert_eq!(rt; desk.sheet(0)?, [].as_slice());
     assert_eq!(rt; desk.call(Call::Receive(15)), 0);
     assert_eq!(rt; desk.sheet(0)?, [0].as_slice());
@@ -55,9 +53,7 @@ fn settled(rt: HostRuntime) -> Result<(), Fail> {
         Call::Receive(0),
         Call::Receive(1),
     ];
-    for call in calls {
-        assert_eq!(rt; desk.call(call), 0);
-    }
+    check_all(&rt, &mut desk, &calls, 0);
     let closed = step(&mut desk)?;
     assert!(rt; closed == Step::Closed(0, 1) || closed == Step::Closed(1, 0));
     assert_eq!(rt; number_of(step(&mut desk)), 18);
@@ -87,9 +83,7 @@ fn nonconflicting_first(rt: HostRuntime) -> Result<(), Fail> {
         Call::Step(0),
         Call::Step(0),
     ];
-    for call in calls {
-        assert_eq!(rt; desk.call(call), 0);
-    }
+    check_all(&rt, &mut desk, &calls, 0);
     assert_eq!(rt; desk.chooser.decision(1)?, Some((2, 1)));
     assert_eq!(rt; desk.sheet(0)?, [1, 0].as_slice());
     assert_eq!(rt; desk.call(Call::Receive(2)), 0);
@@ -110,9 +104,7 @@ fn acknowledged_while_closing(rt: HostRuntime) -> Result<(), Fail> {
         Call::Step(0),
         Call::Receive(1),
     ];
-    for call in calls {
-        assert_eq!(rt; desk.call(call), 0);
-    }
+    check_all(&rt, &mut desk, &calls, 0);
     assert_eq!(rt; desk.sheet(0)?, [].as_slice());
     assert_eq!(rt; desk.call(Call::Step(0)), 18);
     Ok(())
@@ -133,9 +125,7 @@ fn both_closed(rt: &impl Abort, chooser: &mut LowestOf) -> Result<Desk, Fail> {
         Call::Step(0),
         Call::Step(1),
     ];
-    for call in calls {
-        assert_eq!(rt; desk.call(call), 0);
-    }
+    check_all(rt, &mut desk, &calls, 0);
     Ok(desk)
 }
 
