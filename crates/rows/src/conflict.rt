@@ -27,12 +27,7 @@ fn conflict_below<R: Record>(book: &[Command], set: u64, i: u8) -> Option<u8>
 pub fn find_conflict<R: Record>(book: &[Command], set: u64) -> Option<(u8, u8)>
     ensures { Found R.Record.kind.conflicts book.now set result }
 {
-    // Stays a loop: with find_map it stayed open that `Found` follows from what its calls answered, of which the library
-    // has no lemma.
-    for i in 0..MOST_MESSAGES {
-        if let Some(j) = conflict_below::<R>(book, set, i) {
-            return Some((i, j));
-        }
-    }
-    None
+    let i = (0..MOST_MESSAGES).find(|i| conflict_below::<R>(book, set, *i).is_some())?;
+    let j = conflict_below::<R>(book, set, i)?;
+    Some((i, j))
 }
