@@ -39,6 +39,7 @@ fn numbers_are_cut_short(rt: HostRuntime) -> Result<(), Fail> {
     check_faults(
         &rt,
         &[
+            (&[3, 0], 41, 2, &NUMBER),
             (&[3, 0, 0x80], 41, 2, &NUMBER),
             (&[3, 0, 0x80, 0x80, 0x80, 0x80], 41, 2, &NUMBER),
             (&[3, 0, 1], 41, 3, &NUMBER),
