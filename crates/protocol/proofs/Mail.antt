@@ -190,6 +190,10 @@ NoTurn A B = ⊥
 abbrev pub NoCome : Letter → Type 0
 NoCome L = ⊥
 
+-- where no letter comes there is nothing to show of one
+pub none_came : {z : Size} {t : State} (L : Letter) → NoCome L → LetterOk z t L
+none_came L h = absurd h
+
 -- the letter at place i gets the mark v
 abbrev pub Turned : State → ℕ → ℕ → Letter → Letter → Type 0
 Turned s i v A B = (A ≡ s.letter i) × (B ≡ marked A v)

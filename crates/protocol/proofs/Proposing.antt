@@ -10,9 +10,8 @@ use Rattle.protocol.proofs.Facts.{cause_in, carry, Tallied, Cause}
 use Rattle.protocol.proofs.Invariant.{ClosingOk, NodeOk, ChooserOk, ProposalOk, Ok}
 use Rattle.protocol.proofs.Continuing.{Continues, posted_up, cause_up, proposal_up, stage_up, pending_up, early_up}
 use Rattle.protocol.proofs.Continuing.{checks_up, sheet_up}
-use Rattle.protocol.proofs.Mail.{Mail, mail_words, mail_sent, mail_taken, mail_none, post_keeps, NoTurn, NoCome}
+use Rattle.protocol.proofs.Mail.{Mail, mail_words, mail_sent, mail_taken, mail_none, none_came, post_keeps, NoTurn, NoCome}
 use Rattle.protocol.proofs.Acting.{live_same, book_keeps, acts}
-use Rattle.protocol.proofs.Failing.{none_came}
 use Rattle.protocol.proofs.Counting.{count_one}
 use Rattle.protocol.proofs.Acknowledging.{undelivered_parts, undelivered_from}
 

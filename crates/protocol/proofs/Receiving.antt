@@ -6,9 +6,8 @@ use Rattle.protocol.specs.Calls.{Takes, NoneSent, Becomes, taker}
 use Rattle.protocol.proofs.Facts.{same_mark, same_receiver}
 use Rattle.protocol.proofs.Invariant.{NodeOk, Astray, PostOk, Ok}
 use Rattle.protocol.proofs.Continuing.{Continues}
-use Rattle.protocol.proofs.Mail.{Mail, mail_marks, post_keeps, turned_is, NoCome, Turned}
+use Rattle.protocol.proofs.Mail.{Mail, mail_marks, none_came, post_keeps, turned_is, NoCome, Turned}
 use Rattle.protocol.proofs.Acting.{live_same, proposers_same, continues_same, book_keeps, chooser_keeps, acts}
-use Rattle.protocol.proofs.Failing.{none_came}
 
 module _ {z : Size} {s t : State} (o : Ok z s) (i : ℕ) (k : Takes s t i) where
   -- the mark of the letter that is taken

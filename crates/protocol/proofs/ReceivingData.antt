@@ -1,16 +1,15 @@
--- A node receives data of a new message: its own, which it need not relay, or another's, which it sends on.
+-- What the two receipts of data of a new message have in common: the receiver has it from then on.
 use Rattle.std.proofs.Common.{◌≡◌, ℕ, ◌<◌, eqb, sym, refl, subst, inl, inr, arith}
 use Rattle.std.proofs.lemmas.Bool.{or_cases, eqb-true, eq-eqb}
 use Rattle.protocol.specs.Sets.{◌∈◌, only}
 use Rattle.protocol.specs.Ring.{Size, State, Node, Letter, data_letter, taken}
 use Rattle.protocol.specs.Nodes.{after_data}
-use Rattle.protocol.specs.Calls.{Takes, ReceivesOwn, Relays, taker}
-use Rattle.protocol.proofs.Facts.{cause_in, same_sender, carry, Told}
+use Rattle.protocol.specs.Calls.{Takes, taker}
+use Rattle.protocol.proofs.Facts.{cause_in, carry, Told}
 use Rattle.protocol.proofs.Invariant.{PendingOk, SentBy, TakenBy, NodeOk, Ok}
-use Rattle.protocol.proofs.Continuing.{Continues, told_up, stage_up, pending_up, early_up, checks_up, closing_up, sheet_up}
-use Rattle.protocol.proofs.Mail.{Mail, mail_sent, mail_taken, mail_both, post_keeps, turned_is, Turned, SentNew}
-use Rattle.protocol.proofs.Acting.{continues_same, book_keeps, chooser_keeps, acts}
-use Rattle.protocol.proofs.Broadcasting.{data_letter_ok, data_pair_ok, data_sent_ok, data_kind, data_told}
+use Rattle.protocol.proofs.Continuing.{Continues, stage_up, pending_up, early_up, checks_up, closing_up, sheet_up}
+use Rattle.protocol.proofs.Mail.{Mail, mail_sent, mail_taken, turned_is, Turned}
+use Rattle.protocol.proofs.Broadcasting.{data_sent_ok}
 use Rattle.protocol.proofs.Receiving as receiving
 
 module _ {z : Size} {s t : State} (o : Ok z s) (i m : ℕ) (k : Takes s t i) (kind : (s.letter i).kind ≡ data_letter)
@@ -32,7 +31,7 @@ module _ {z : Size} {s t : State} (o : Ok z s) (i m : ℕ) (k : Takes s t i) (ki
   ok = receiving.receiver_ok o i k
 
   -- the message was broadcast
-  m_known : m < s.messages
+  pub m_known : m < s.messages
   m_known = (o.post.each i k.place).unspoilt.known m (carry m (sym message) (eq-eqb m m refl))
 
   -- what was received before is received still
@@ -84,7 +83,7 @@ module _ {z : Size} {s t : State} (o : Ok z s) (i m : ℕ) (k : Takes s t i) (ki
     })
 
     -- what holds of the receiver afterwards
-    data_node_ok : NodeOk z t r N'
+    pub data_node_ok : NodeOk z t r N'
     data_node_ok = record {
       stage = stage_up e ok.stage;
       pending = pending;
@@ -94,39 +93,4 @@ module _ {z : Size} {s t : State} (o : Ok z s) (i m : ℕ) (k : Takes s t i) (ki
       sheet = sheet_up e ok.sheet;
       sent_letters = mail_sent mail e r N N' ok sent_before (λ L c h. data_sent_ok N' L (data-only L c));
       taken_letters = mail_taken mail e r N N' ok taken_before taken_now;
-    }
-
--- a message of its own
-pub receives_own_ok : {z : Size} {s t : State} (i m : ℕ) → Ok z s → ReceivesOwn z s t i m → Ok z t
-receives_own_ok {z} {s} {t} i m o c =
-    let k = c.takes in
-    let e = receiving.continues o i k c.silent in
-    let known = m_known o i m k c.kind c.message in
-    let told : Told t (s.letter i).receiver m =
-    subst (λ (x : ℕ). Told t x m) c.own (told_up e (s.broadcaster m) m (o.book.told m known)) in
-    receiving.whole o i k c.silent (after_data m (taker s i)) c.becomes
-    (data_node_ok o i m k c.kind c.message e (receiving.mail o i k c.silent) (λ L h. absurd h) told)
-
--- another's message
-pub relays_ok : {z : Size} {s t : State} (i m : ℕ) → Ok z s → Relays z s t i m → Ok z t
-relays_ok {z} {s} {t} i m o c =
-    let k = c.takes in
-    let r : ℕ = (s.letter i).receiver in
-    let r-in = receiving.receiver_in o i k in
-    let known = m_known o i m k c.kind c.message in
-    let mail : Mail z s t (Turned s i taken) (SentNew z r data_letter 0 (only m)) = mail_both i taken c.sends k.marks in
-    let e : Continues s t = continues_same mail k.book k.chooser (receiving.live o i k) in
-    record {
-      book = book_keeps e k.book o.book;
-      post = post_keeps mail e o.post (receiving.turned_mark o i k)
-          (data_letter_ok r m r-in (omega (arith, known, e.messages_le)))
-          (λ L M h k. data_pair_ok L M (inl (data_kind z r m L h))) (λ L l h k. (
-            data_pair_ok L (s.letter l) (inl (data_kind z r m L h)),
-            data_pair_ok (s.letter l) L (inr (data_kind z r m L h)),
-          ));
-      chooser = chooser_keeps e k.chooser o.chooser;
-      nodes = acts o e mail r (after_data m (taker s i)) c.becomes
-          (data_node_ok o i m k c.kind c.message e mail (data_kind z r m) (data_told {s = s} r m r-in c.sends))
-          (λ x j d. receiving.no_proposal o i k j x) (λ L h. same_sender h.2)
-          (receiving.turned_receiver o i k);
     }

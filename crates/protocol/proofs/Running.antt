@@ -11,14 +11,19 @@ use Rattle.protocol.proofs.Facts.{past}
 use Rattle.protocol.proofs.Invariant.{NodeOk, Ok}
 use Rattle.protocol.proofs.Counting.{count_none}
 use Rattle.protocol.proofs.Broadcasting.{broadcasts_ok}
-use Rattle.protocol.proofs.Failing.{receives_known_ok, passes_acknowledgement_ok, passes_check_ok, crashes_ok, loses_ok}
-use Rattle.protocol.proofs.ReceivingData.{receives_own_ok, relays_ok}
+use Rattle.protocol.proofs.ReceivingKnown.{receives_known_ok}
+use Rattle.protocol.proofs.ReceivingOwn.{receives_own_ok}
+use Rattle.protocol.proofs.Relaying.{relays_ok}
 use Rattle.protocol.proofs.Hearing.{hears_ok}
+use Rattle.protocol.proofs.PassingAcknowledgements.{passes_acknowledgement_ok}
 use Rattle.protocol.proofs.KeepingChecks.{keeps_check_ok}
+use Rattle.protocol.proofs.PassingChecks.{passes_check_ok}
 use Rattle.protocol.proofs.Acknowledging.{acknowledges_ok}
 use Rattle.protocol.proofs.Closing.{closes_ok}
 use Rattle.protocol.proofs.Proposing.{proposes_ok}
 use Rattle.protocol.proofs.Settling.{settles_ok, none_early, none_kept}
+use Rattle.protocol.proofs.Crashing.{crashes_ok}
+use Rattle.protocol.proofs.Losing.{loses_ok}
 
 module _ {z : Size} {s : State} (b : Start z s) where
   -- no letter, no proposal and no past at the start

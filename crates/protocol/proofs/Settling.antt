@@ -12,9 +12,8 @@ use Rattle.protocol.proofs.Facts.{past, Settled, Precedes, earlier, sooner, lowe
 use Rattle.protocol.proofs.Invariant.{StageOk, PendingOk, EarlyOk, ChecksOk, ClosingOk, SheetOk, SentBy, TakenBy}
 use Rattle.protocol.proofs.Invariant.{NodeOk, Ok}
 use Rattle.protocol.proofs.Continuing.{Continues, settled_up, past_same, stage_up, pending_up, closing_up, sheet_up}
-use Rattle.protocol.proofs.Mail.{Mail, mail_sent, mail_taken, mail_none, post_keeps, NoTurn, NoCome}
+use Rattle.protocol.proofs.Mail.{Mail, mail_sent, mail_taken, mail_none, none_came, post_keeps, NoTurn, NoCome}
 use Rattle.protocol.proofs.Acting.{live_same, proposers_same, continues_same, book_keeps, chooser_keeps, acts}
-use Rattle.protocol.proofs.Failing.{none_came}
 use Rattle.protocol.proofs.Counting.{count_none}
 use Rattle.protocol.proofs.Lists.{mem_left, mem_right, mem_cases, once_join, before_cases, before_mem, ascending_mem}
 use Rattle.protocol.proofs.Lists.{mem_ascending, ascending_once, ascending_before}
