@@ -163,7 +163,7 @@ pub record Hears (z : Size) (s t : State) (i : ℕ) : Type 0 where
   pub silent : NoneSent s t
   pub becomes : Becomes z s t (s.letter i).receiver (after_hearing z (s.letter i).sender (s.letter i).set (taker s i))
 
--- an acknowledgement of an earlier stage, or one that comes while the receiver closes
+-- an acknowledgement of an earlier stage, or one that comes while the receiver closes: nothing else changes
 pub record PassesAcknowledgement (z : Size) (s t : State) (i : ℕ) : Type 0 where
   pub takes : Takes s t i
   pub kind : (s.letter i).kind ≡ acknowledgement
@@ -171,7 +171,7 @@ pub record PassesAcknowledgement (z : Size) (s t : State) (i : ℕ) : Type 0 whe
   pub silent : NoneSent s t
   pub nodes : SameNodes z s t
 
--- a check of the receiver's stage, from a node of which it keeps none, while it keeps too few
+-- a check of the receiver's stage, from a node of which it keeps none, while it keeps too few: it keeps it
 pub record KeepsCheck (z : Size) (s t : State) (i : ℕ) : Type 0 where
   pub takes : Takes s t i
   pub kind : (s.letter i).kind ≡ check_letter
@@ -181,7 +181,7 @@ pub record KeepsCheck (z : Size) (s t : State) (i : ℕ) : Type 0 where
   pub silent : NoneSent s t
   pub becomes : Becomes z s t (s.letter i).receiver (with_check (s.letter i).sender (s.letter i).set (taker s i))
 
--- any other check
+-- any other check: nothing else changes
 pub record PassesCheck (z : Size) (s t : State) (i : ℕ) : Type 0 where
   pub takes : Takes s t i
   pub kind : (s.letter i).kind ≡ check_letter
@@ -200,7 +200,7 @@ pub record Steps (z : Size) (s t : State) (r : ℕ) : Type 0 where
   pub book : SameBook s t
   pub live : SameLive s t
 
--- a gathering node acknowledges to all what it has not delivered, where no two of that conflict
+-- a gathering node acknowledges to all what it has to deliver, where no two of that conflict
 pub record Acknowledges (z : Size) (s t : State) (r : ℕ) : Type 0 where
   pub steps : Steps z s t r
   pub gathering : (s.node r).closing ≡ false
@@ -209,7 +209,7 @@ pub record Acknowledges (z : Size) (s t : State) (r : ℕ) : Type 0 where
   pub becomes : Becomes z s t r (after_acknowledging (s.node r))
   pub chooser : SameChooser s t
 
--- a gathering node that has two conflicting messages a and b to deliver sends its check, and closes its stage
+-- a gathering node that has two conflicting messages a and b to deliver sends its pending set as a check, and closes its stage
 pub record Closes (z : Size) (s t : State) (r a b : ℕ) : Type 0 where
   pub steps : Steps z s t r
   pub gathering : (s.node r).closing ≡ false
@@ -220,7 +220,8 @@ pub record Closes (z : Size) (s t : State) (r a b : ℕ) : Type 0 where
   pub becomes : Becomes z s t r (with_closing (s.node r))
   pub chooser : SameChooser s t
 
--- a closing node that keeps enough checks proposes: as nonconflicting what more than half of them have, as conflicting the rest
+-- a closing node that keeps enough checks proposes: as nonconflicting what more than half of them have, as conflicting
+-- what else it has to deliver
 pub record Proposes (z : Size) (s t : State) (r : ℕ) : Type 0 where
   pub steps : Steps z s t r
   pub closing : (s.node r).closing ≡ true
@@ -230,7 +231,7 @@ pub record Proposes (z : Size) (s t : State) (r : ℕ) : Type 0 where
   pub becomes : Becomes z s t r (with_proposed (s.node r))
   pub silent : NoneSent s t
 
--- a closing node whose stage is decided delivers the decision, and goes on to the next stage
+-- a closing node that has proposed and whose stage is decided delivers the decision, and goes on to the next stage
 pub record Settles (z : Size) (s t : State) (r : ℕ) : Type 0 where
   pub steps : Steps z s t r
   pub closing : (s.node r).closing ≡ true

@@ -7,27 +7,27 @@ use Rattle.protocol.specs.Setters.{with_received, with_pending, with_heard, with
 
 -- ---- the sets that a node works out
 
--- what it received and has not delivered in a finished stage
+-- what it has to deliver: what it received and has not delivered in a finished stage
 abbrev pub undelivered : Node → Set
 undelivered N = N.received ∖ N.delivered
 
--- whom it has heard, once an acknowledgement of S from x is heard too
+-- for each message whom it has heard, once an acknowledgement of S from x is heard too
 abbrev pub heard_also : Node → ℕ → Set → ℕ → Set
 heard_also N x S m = λ y. N.heard m y || (y == x && S m)
 
--- what that acknowledgement brings to the acknowledging quorum
+-- what it then has heard from an acknowledging quorum and has not delivered yet, early or in a finished stage
 abbrev pub newly : Size → Node → ℕ → Set → Set
 newly z N x S = λ m. nat_le z.ack (count z.n (heard_also N x S m)) && (not (N.delivered m) && not (N.early m))
 
--- the messages in more than half of the checks that it keeps
+-- the messages in more than half of chk checks, of those that it keeps
 abbrev pub tally : Size → Node → Set
 tally z N = λ m. nat_lt (z.chk / 2) (count z.n (λ x. N.kept x && N.check x m))
 
--- what a decision adds to its sheet first: the nonconflicting messages that it has not delivered
+-- what a decision adds to its sheet first: the nonconflicting messages that it has not delivered yet
 abbrev pub settled_first : Node → Set → Set
 settled_first N NC = NC ∖ N.delivered ∖ N.early
 
--- and then: the other conflicting messages that it has not delivered
+-- and then: the conflicting messages that it has not delivered yet and that are not among the nonconflicting ones
 abbrev pub settled_then : Node → Set → Set → Set
 settled_then N NC C = C ∖ N.delivered ∖ N.early ∖ NC
 

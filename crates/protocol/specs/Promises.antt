@@ -26,6 +26,7 @@ abbrev pub DeliveredIsBroadcast : Size → State → Type 0
 DeliveredIsBroadcast z s = (r m : ℕ) → r < z.n → Mem m (sheet s r) → m < s.messages
 
 -- A machine that takes messages, and in which messages that do not conflict commute wherever its state is one that fits.
+-- Its laws are asked of all numbers, also of those that no broadcast message has.
 pub record Machine (conflict : ℕ → ℕ → Bool) : Type 0 where
   pub after : List ℕ → ℕ → List ℕ
   pub fits : List ℕ → Bool
@@ -104,13 +105,15 @@ FewStages z s = (r : ℕ) → r < z.n → 2 * (s.node r).stage ≤ s.messages + 
 abbrev pub FewStagesClosing : Size → State → Type 0
 FewStagesClosing z s = (r : ℕ) → r < z.n → (s.node r).closing ≡ true → 2 * (s.node r).stage ≤ s.messages
 
+-- ---- the chooser: no proposal or question to a chooser of 32 stages is refused in a run
+
 -- a chooser of the stages 1 to 32 and the nodes 0 to 6 has stage j and node r
 pub record ChooserHas (j r : ℕ) : Type 0 where
   pub stage_low : 1 ≤ j
   pub stage_high : j ≤ 32
   pub node_high : r ≤ 6
 
--- So a chooser of 32 stages has the stage of every node that may ask it.
+-- A chooser of 32 stages has the stage of every node that may ask it.
 abbrev pub ChooserHasTheStage : Size → State → Type 0
 ChooserHasTheStage z s = (r : ℕ) → r < z.n → (s.node r).closing ≡ true → (s.node r).stage ≤ 32
 
@@ -145,7 +148,7 @@ NoLetterSpoilt z s = (i : ℕ) → i < s.sent → Unspoilt z s (s.letter i)
 abbrev pub FreeOfConflict : State → Type 0
 FreeOfConflict s = (a b : ℕ) → a < s.messages → b < s.messages → s.conflict a b ≡ false
 
--- No node ever closed a stage, and nobody asked the chooser.
+-- No node ever closed a stage, and the chooser got no proposal.
 pub record NeverClosed (z : Size) (s : State) : Type 0 where
   pub no_check : (i : ℕ) → i < s.sent → (s.letter i).kind ≢ check_letter
   pub gathering : (r : ℕ) → r < z.n → (s.node r).closing ≡ false

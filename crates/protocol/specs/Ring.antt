@@ -13,28 +13,30 @@ pub record Size : Type 0 where
   pub chk : ℕ
   -- so many proposals make the chooser decide a stage
   pub need : ℕ
+  -- neither quorum is larger than the ring
   pub ack_le : ack ≤ n
   pub chk_le : chk ≤ n
   -- an acknowledging quorum meets more than half of every quorum of checks
   pub meet : 2 * n < 2 * ack + chk
+  -- no stage is decided before someone proposed, and all that send the checks of a stage are enough to decide it
   pub need_pos : 1 ≤ need
   pub need_le : need ≤ chk
+  -- a ring has at most seven nodes
   pub n_le : n ≤ 7
 
--- The kinds of letters: data carries one message, an acknowledgement a set that its sender keeps pending,
--- a check the whole set that its sender kept pending when it closed the stage.
+-- the kind of data, which carries one message
 abbrev pub data_letter : ℕ
 data_letter = 1
 
--- the kind of acknowledgements
+-- the kind of acknowledgements, each of a set that its sender keeps pending
 abbrev pub acknowledgement : ℕ
 acknowledgement = 2
 
--- the kind of checks
+-- the kind of checks, each of the whole set that its sender kept pending when it closed its stage
 abbrev pub check_letter : ℕ
 check_letter = 3
 
--- The marks of letters: still under way, taken by the receiver, or lost with a crash.
+-- the mark of a letter that is still under way
 abbrev pub travelling : ℕ
 travelling = 1
 

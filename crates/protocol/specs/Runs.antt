@@ -6,7 +6,8 @@ use Rattle.protocol.specs.Nodes.{fresh}
 use Rattle.protocol.specs.Calls.{Broadcasts, ReceivesKnown, ReceivesOwn, Relays, Hears, PassesAcknowledgement}
 use Rattle.protocol.specs.Calls.{KeepsCheck, PassesCheck, Acknowledges, Closes, Proposes, Settles, Crashes, Loses}
 
--- before any call: no message, no letter, fresh nodes that all live, and a chooser that nobody asked (stage 0 is never used)
+-- before any call: no message, no letter, fresh nodes that all live, and a chooser that nobody asked, with nothing for
+-- stage 0, which is never used
 pub record Start (z : Size) (s : State) : Type 0 where
   pub messages : s.messages ≡ 0
   pub sent : s.sent ≡ 0
@@ -19,7 +20,7 @@ pub record Start (z : Size) (s : State) : Type 0 where
   pub both_sides : (a b : ℕ) → s.conflict a b ≡ s.conflict b a
   pub not_itself : (a : ℕ) → s.conflict a a ≡ false
 
--- one call
+-- one call, accepted or refused
 pub data Call (z : Size) (s t : State) : Type 0 where
   broadcasts : (r : ℕ) → Broadcasts z s t r → Call z s t
   receives_known : (i m : ℕ) → ReceivesKnown z s t i m → Call z s t
@@ -38,7 +39,7 @@ pub data Call (z : Size) (s t : State) : Type 0 where
   -- a refused call changes nothing
   refused : t ≡ s → Call z s t
 
--- from the start s to the state t
+-- any list of calls, from the start s to the state t
 pub data Run (z : Size) (s : State) : State → Type 0 where
   starts : Start z s → Run z s s
   goes_on : {t u : State} → Run z s t → Call z t u → Run z s u

@@ -52,7 +52,7 @@ with_heard H N = record {
   sheet = N.sheet;
 }
 
--- the node that delivers the messages of a set early
+-- the node that delivers the messages of a set early, the lowest first
 abbrev pub with_early : Set → Node → Node
 with_early E N = record {
   stage = N.stage;
@@ -68,7 +68,7 @@ with_early E N = record {
   sheet = N.sheet ++ ascending 64 E;
 }
 
--- the node that keeps a check of node x
+-- the node that keeps a check of node x, of the set S
 abbrev pub with_check : ℕ → Set → Node → Node
 with_check x S N = record {
   stage = N.stage;
@@ -132,7 +132,7 @@ with_delivered G l N = record {
   sheet = l;
 }
 
--- the node at the beginning of a stage: it keeps what it received and delivered, and its sheet
+-- the node at the beginning of stage j: it keeps what it received and delivered, and its sheet
 abbrev pub with_stage : ℕ → Node → Node
 with_stage j N = record {
   stage = j;
