@@ -1,7 +1,7 @@
 -- A closing node that keeps enough checks proposes.
-use Rattle.std.proofs.Common.{◌≡◌, ℕ, ◌/◌, ◌<◌, Bool, true, ◌&&◌, ◌||◌, ◌⊎◌, sym, refl, ap, ◌∙◌, subst, inl, inr, arith}
-use Rattle.std.proofs.lemmas.Bool.{cases_Bool, or_cases, and_parts, ltb-true, lt-ltb}
-use Rattle.protocol.specs.Sets.{Set, ◌∈◌, count, ◌∖◌, ◌∪◌}
+use Rattle.std.proofs.Common.{◌≡◌, ℕ, ◌<◌, Bool, true, ◌&&◌, ◌||◌, ◌⊎◌, sym, refl, ap, ◌∙◌, subst, inl, inr, arith}
+use Rattle.std.proofs.lemmas.Bool.{cases_Bool, or_cases, and_parts}
+use Rattle.protocol.specs.Sets.{Set, ◌∈◌, ◌∖◌, ◌∪◌}
 use Rattle.protocol.specs.Ring.{Size, State, Node}
 use Rattle.protocol.specs.Setters.{with_proposed}
 use Rattle.protocol.specs.Nodes.{undelivered, tally}
@@ -12,7 +12,7 @@ use Rattle.protocol.proofs.Continuing.{Continues, posted_up, cause_up, proposal_
 use Rattle.protocol.proofs.Continuing.{checks_up, sheet_up}
 use Rattle.protocol.proofs.Mail.{Mail, mail_words, mail_sent, mail_taken, mail_none, none_came, post_keeps, NoTurn, NoCome}
 use Rattle.protocol.proofs.Acting.{live_same, book_keeps, acts}
-use Rattle.protocol.proofs.Counting.{count_one}
+use Rattle.protocol.proofs.Counting.{SomeIn, count_one}
 use Rattle.protocol.proofs.Acknowledging.{undelivered_parts, undelivered_from}
 
 -- a closing node sent a check of its stage, so it has a cause to close
@@ -76,8 +76,8 @@ module _ {z : Size} {s t : State} (r : ℕ) (o : Ok z s) (c : Proposes z s t r) 
     votes = N.check;
     full = omega (arith, c.enough, ok.checks.kept_few);
     cast = (checks_up e ok.checks).kept_from;
-    most = λ m h. ltb-true (z.chk / 2) (count z.n (λ x. N.kept x && N.check x m)) h;
-    all = λ m h. lt-ltb (z.chk / 2) (count z.n (λ x. N.kept x && N.check x m)) h;
+    most = λ m h. grind (arith, h);
+    all = λ m h. grind (arith, h);
   }
 
   -- what is received and new is proposed
@@ -91,26 +91,19 @@ module _ {z : Size} {s t : State} (r : ℕ) (o : Ok z s) (c : Proposes z s t r) 
       (λ m h. ok.pending.received_known m (undelivered_parts N m h).0) in_pair
       (cause_in N.received (undelivered N) (λ m h n. undelivered_from N m h (ok.stage.delivered_is m ∙ n)) w)
 
-  -- what it proposes was broadcast
+  -- what a kept check has was broadcast
+  in_check : (m : ℕ) → SomeIn z.n (λ x. N.kept x && N.check x m) → m < t.messages
+  in_check m (x, l, h) =
+      let p = and_parts (N.kept x) (N.check x m) h in
+      let k = ok.checks.kept_from x l p.0 in
+      omega (arith, e.messages_le, (o.post.each k.0 k.1.place).unspoilt.known m (carry m (sym k.2) p.1))
+
+  -- what it proposes was broadcast: a tallied message is in some check
   known : (m : ℕ) → m ∈ (V ∪ D) → m < t.messages
   known m h = elim (or_cases (V m) (D m) h) [
-    | inl v ↦ in_check v
-    | inr d ↦ (pending_up e ok.pending).received_known m
-        (grind (arith, d))
+    | inl v ↦ in_check m (count_one z.n (λ x. N.kept x && N.check x m) (grind (arith, v)))
+    | inr d ↦ (pending_up e ok.pending).received_known m (grind (arith, d))
   ]
-    where
-      -- a tallied message is in some check
-      in_check : m ∈ V → m < t.messages
-      in_check v =
-          let many = ltb-true (z.chk / 2) (count z.n (λ x. N.kept x && N.check x m)) v in
-          let w = count_one z.n (λ x. N.kept x && N.check x m) (omega (arith, many)) in
-          let p = and_parts (N.kept w.0) (N.check w.0 m) w.2 in
-          let k = ok.checks.kept_from w.0 w.1 p.0 in
-          omega (
-            arith,
-            e.messages_le,
-            (o.post.each k.0 k.1.place).unspoilt.known m (carry m (sym k.2) p.1),
-          )
 
   -- ---- the chooser: each proposal is an old one or this one
 
