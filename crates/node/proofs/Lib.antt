@@ -1,0 +1,9 @@
+pub mod DayAlike
+pub mod LettersSent
+pub mod LettersTaken
+pub mod ReceiptsAlike
+pub mod ReceiptsGiven
+pub mod SheetPart
+pub mod TurnsAlike
+pub mod TurnsGiven
+pub mod Unmoved

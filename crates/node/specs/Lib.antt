@@ -1,4 +1,6 @@
+pub mod Alike
 pub mod Decides
+pub mod Events
 pub mod Gathers
 pub mod Members
 pub mod States

@@ -3,6 +3,7 @@ ghost use Rattle.rows.specs.Letters.{data_letter, acknowledgement, check_letter}
 ghost use Rattle.node.specs.Tables.{lent_in, StillLent};
 ghost use Rattle.node.specs.Takes.{Takes};
 ghost use Rattle.node.specs.Gathers.{Acknowledges};
+ghost use Rattle.node.specs.Alike.{GoesAsInARing};
 ghost use Rattle.node.specs.States.{Begins, ClosesTo, Shows};
 
 use crate::closing_node::Closing;
@@ -21,7 +22,8 @@ impl Gathering {
     // The node of this number at the start of a ring. Refused: 8 there is no such node; 5 the chooser's need is above
     // the quorum.
     pub fn new<C: Chooser>(size: RingSize, number: u8, chooser: &C) -> Result<Gathering, Refusal>
-        ensures { Begins size number (C.Chooser.meaning chooser.now).need result }
+        ensures begins { Begins size number (C.Chooser.meaning chooser.now).need result }
+        ensures alike { GoesAsInARing size number result }
     {
         if number >= size.n {
             return Err(Refusal::NoSuchNode);

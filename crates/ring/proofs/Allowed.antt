@@ -43,7 +43,7 @@ module _ {K : Kind} {z : RingSize} {w : World} (f : Fine K z w) where
   started = ap unstarted f.size
 
   -- the tables fit
-  tables_allowed : table_refusal w ≡ None
+  pub tables_allowed : table_refusal w ≡ None
   tables_allowed = passed (wrong_sizes (length w.tray) (length w.book) (length w.sheets)) _ _ f.tables refl
 
   -- a number below that of the nodes is a node
@@ -92,7 +92,7 @@ module _ {K : Kind} {z : RingSize} {need : ℕ} {low : 1 ≤ need} {high : need 
       ∙ ap (count 64) is ∙ count_only_one 64 m below
 
   -- no letter is spoilt
-  unspoilt : (i : ℕ) → i < w.ring.used → spoilt (nodes_of w.ring.size) w.ring.messages (letter_at w i) ≡ false
+  pub unspoilt : (i : ℕ) → i < w.ring.used → spoilt (nodes_of w.ring.size) w.ring.messages (letter_at w i) ≡ false
   unspoilt i l =
       let u = (j.ok.post.each i l).unspoilt in
       or_from _ _ (known_kind (letter_at w i).kind u.kinds)

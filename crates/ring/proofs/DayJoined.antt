@@ -19,7 +19,7 @@ use Rattle.ring.proofs.StartJoined.{start_high, start_joined}
 use Rattle.ring.proofs.StepJoined.{steps_joined}
 
 -- call by call
-day_joined : {K : Kind} {z : RingSize} {need : ℕ} {low : 1 ≤ need} {high : need ≤ z.q} {w₀ : World} {M₀ : Meaning}
+pub day_joined : {K : Kind} {z : RingSize} {need : ℕ} {low : 1 ≤ need} {high : need ≤ z.q} {w₀ : World} {M₀ : Meaning}
     → Laws K → Joined K z need low high w₀ M₀ → (w : World) (M : Meaning) → Day K w₀ M₀ w M → Joined K z need low high w M
 day_joined laws j _ _ begins = j
 day_joined laws j _ _ (broadcasts w M node c r v d h) = broadcasts_joined laws (day_joined laws j w M d) node c r v h

@@ -114,13 +114,13 @@ module _ (K : Kind) (w : World) (M : Meaning) (node : ℕ) (v : World) (N : Mean
 -- ---- accepted and refused calls
 
 -- a call that answers Ok was refused by nothing, answers what it has to tell, and leaves what it changed
-accepted_call : {X Y : Type 0} (o : Option Refusal) (x y : X) (changed same v : Y) → Ok y ≡ answer o x → v ≡ unless o changed same
+pub accepted_call : {X Y : Type 0} (o : Option Refusal) (x y : X) (changed same v : Y) → Ok y ≡ answer o x → v ≡ unless o changed same
     → (o ≡ None) × (y ≡ x) × (v ≡ changed)
 accepted_call None x y changed same v r h = (refl, cc, h)
 accepted_call (Some e) x y changed same v r h = let clash : ◌≡◌ {A = ℕ} 0 1 = cc in absurd (omega arith)
 
 -- a call that answers Err leaves all
-refused_call : {X Y : Type 0} (o : Option Refusal) (x : X) (e : Refusal) (changed same v : Y) → Err e ≡ answer o x
+pub refused_call : {X Y : Type 0} (o : Option Refusal) (x : X) (e : Refusal) (changed same v : Y) → Err e ≡ answer o x
     → v ≡ unless o changed same → v ≡ same
 refused_call None x e changed same v r h = let clash : ◌≡◌ {A = ℕ} 0 1 = cc in absurd (omega arith)
 refused_call (Some _) x e changed same v r h = h

@@ -41,7 +41,7 @@ without_both : (A B C : Set) → (A ∖ (B ∪ C)) ≡ (A ∖ B ∖ C)
 without_both A B C = fun_ext (λ m. neither (A m) (B m) (C m))
 
 -- a decision that is asked for and told stands
-told_stands : (serves : Bool) (o : Option (ℕ × ℕ)) → settle_refusal (cond serves (Done o) (Err NoSuchStage)) ≡ None
+pub told_stands : (serves : Bool) (o : Option (ℕ × ℕ)) → settle_refusal (cond serves (Done o) (Err NoSuchStage)) ≡ None
     → o ≡ Some (decided_of (cond serves (Done o) (Err NoSuchStage)))
 told_stands true None h = not_some Undecided h
 told_stands true (Some decided) h = refl
@@ -88,11 +88,11 @@ module _ {K : Kind} {z : RingSize} {need : ℕ} {low : 1 ≤ need} {high : need 
         )
 
     -- so the first mask has 64 digits
-    first_small : decided.0 < 2 ^ 64
+    pub first_small : decided.0 < 2 ^ 64
     first_small = known_small 64 decided.0 (λ m h. decided_known m (or_left _ _ (subst (λ (S : Set). m ∈ S) first_seen h)))
 
     -- and so has the second
-    second_small : decided.1 < 2 ^ 64
+    pub second_small : decided.1 < 2 ^ 64
     second_small =
         known_small 64 decided.1 (λ m h.
         decided_known m (or_right (nonconflicting m) _ (subst (λ (S : Set). m ∈ S) second_seen h)))

@@ -89,7 +89,7 @@ module _ (sheets : List ℕ) (node a b : ℕ) where
         ∙ ap (λ k. count 64 (has a) + k) (ap length written ∙ ascending_length 64 (has b ∖ has a)))
 
     -- and fits in 64 places
-    fits : ones a + length (members (minus b a) 64) ≤ 64
+    pub fits : ones a + length (members (minus b a) 64) ≤ 64
     fits = omega (arith, longer, ones_count 64 (bit_or a b) (or_lt 64 a b small-a small_b), count_le 64 (has (bit_or a b)))
 
     -- the sheet of that node has grown by what is written

@@ -38,7 +38,7 @@ new_row_seen sheets r =
     ∙ ap₂ (λ (S : Set) (k : ℕ). beginning 1 S S (take k (drop (64 * r) sheets))) set_none (ones-ones 0)
 
 -- every node of the ring has a new row
-row_is_new : (z : RingSize) (r : ℕ) → r < z.n → (get_or (replicate 7 new_node) r no_node).row ≡ new_row
+pub row_is_new : (z : RingSize) (r : ℕ) → r < z.n → (get_or (replicate 7 new_node) r no_node).row ≡ new_row
 row_is_new z r l = ap (λ (n : Node). n.row) (get_or-replicate 7 r new_node no_node (omega (arith, l, z.high)))
 
 -- ---- a chooser that nobody asked
