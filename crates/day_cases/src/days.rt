@@ -5,7 +5,7 @@ use std::test::Fail;
 // Days by a ring of one node, with First-come.
 #[test]
 fn one_node(rt: HostRuntime) -> Result<(), Fail> {
-    let cases: [(&[u8], &str); 7] = [
+    let cases: [(&[u8], &str); 9] = [
         // no entry
         (&[1, 1, 1, 1], "node 0 stage 1 live\naccepted 0 refused 0\n"),
         // a payment is acknowledged and delivered; the last step finds nothing new
@@ -45,6 +45,16 @@ fn one_node(rt: HostRuntime) -> Result<(), Fail> {
             ],
             "node 0 stage 1 live 0 1\naccepted 6 refused 0\n",
         ),
+        // a node spelled longer than need be
+        (
+            &[1, 1, 1, 1, 3, 0x80, 0],
+            "node 0 stage 1 live\naccepted 0 refused 0\nfault 42 at 5\n",
+        ),
+        // a body of six bytes, of which two are there
+        (
+            &[1, 1, 1, 1, 1, 0, 6, 1, 0],
+            "node 0 stage 1 live\naccepted 0 refused 0\nfault 44 at 7\n",
+        ),
         // a fault after a refused step
         (
             &[1, 1, 2, 2, 3, 0, 3, 0x80],
@@ -79,6 +89,33 @@ fn several_nodes(rt: HostRuntime) -> Result<(), Fail> {
         ),
     ];
     check_reports(&rt, rt.alloc(), &cases)
+}
+
+// Two nodes close over the payment 0 and the draw 1; only node 1 has the payment 2, and it proposes first. First-come
+// decides by that proposal, Lowest-of, once both proposed, by node 0's.
+#[test]
+fn two_choosers(rt: HostRuntime) -> Result<(), Fail> {
+    let heap = rt.alloc();
+    let cases: [(u8, &str); 2] = [
+        (
+            1,
+            "node 0 stage 2 live 0 1 2\nnode 1 stage 2 live 0 1 2\naccepted 18 refused 2\n",
+        ),
+        (
+            2,
+            "node 0 stage 2 live 0 1\nnode 1 stage 2 live 0 1\naccepted 19 refused 1\n",
+        ),
+    ];
+    for (chooser, text) in cases {
+        let day: [u8; 65] = [
+            2, 2, chooser, 1, 1, 0, 6, 1, 0, 0, 0xB2, 0x80, 0x02, 1, 1, 6, 2, 0, 0, 0xB2, 0x80,
+            0x02, 1, 1, 6, 1, 0, 0, 0xB2, 0x80, 0x02, 2, 0, 2, 2, 2, 1, 2, 3, 2, 5, 3, 1, 3, 0, 2,
+            10, 2, 12, 2, 11, 2, 13, 3, 1, 3, 1, 3, 0, 3, 1, 3, 0, 3, 1,
+        ];
+        let got = report_of(heap, &day)?;
+        assert_eq!(rt; got.as_str(), text);
+    }
+    Ok(())
 }
 
 // Three nodes, of which the first delivers a payment early and the others nothing yet.

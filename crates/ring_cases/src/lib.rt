@@ -6,6 +6,8 @@ mod desk;
 #[cfg(test)]
 mod letters;
 #[cfg(test)]
+mod orders;
+#[cfg(test)]
 mod refusals;
 #[cfg(test)]
 mod sizes;

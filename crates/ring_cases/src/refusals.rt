@@ -1,4 +1,5 @@
 use crate::desk::*;
+use record::command::Command;
 use record::kitty::Kitty;
 use record::record::Record;
 use rows::letter::Letter;
@@ -41,6 +42,10 @@ fn causes_of_a_node(rt: HostRuntime) -> Result<(), Fail> {
     assert_eq!(rt; desk.ring.is_live(2)?, false);
     assert_eq!(rt; desk.ring.is_live(1)?, true);
     assert_eq!(rt; number_of(desk.ring.is_live(3)), 8);
+    assert_eq!(rt; number_of(desk.ring.stage(3)), 8);
+    assert_eq!(rt; number_of(desk.sheet(3)), 8);
+    assert_eq!(rt; desk.ring.stage(2)?, 1);
+    assert_eq!(rt; desk.sheet(2)?, [].as_slice());
     assert_eq!(rt; desk.book[0], PAY);
     Ok(())
 }
@@ -67,20 +72,21 @@ fn full_tray(rt: HostRuntime) -> Result<(), Fail> {
 }
 
 // The number of one more broadcast, with a tray of its own.
-fn broadcast_into(desk: &mut Desk, tray: &mut [Letter; 64]) -> u8 {
+fn broadcast_into(desk: &mut Desk, tray: &mut [Letter; 64], command: Command) -> u8 {
     let mut tables = lend(tray, &mut desk.book, &mut desk.sheets);
-    number_of(desk.ring.broadcast::<Kitty>(&mut tables, 0, PAY))
+    number_of(desk.ring.broadcast::<Kitty>(&mut tables, 0, command))
 }
 
-// The sixty-fifth message is refused before the tray is looked at.
+// The sixty-fifth message is refused before the tray is looked at, and an unlawful command before both.
 #[test]
 fn full_book(rt: HostRuntime) -> Result<(), Fail> {
     let mut desk = Desk::started(1, 1)?;
     let mut tray = [Letter::default(); 64];
     for _ in 0..64 {
-        assert_eq!(rt; broadcast_into(&mut desk, &mut tray), 0);
+        assert_eq!(rt; broadcast_into(&mut desk, &mut tray, PAY), 0);
     }
-    assert_eq!(rt; broadcast_into(&mut desk, &mut tray), 11);
+    assert_eq!(rt; broadcast_into(&mut desk, &mut tray, PAY), 11);
+    assert_eq!(rt; broadcast_into(&mut desk, &mut tray, UNLAWFUL), 10);
     Ok(())
 }
 

@@ -2,9 +2,11 @@ use crate::desk::*;
 use chooser::chooser::Chooser;
 use chooser::first_come::FirstCome;
 use chooser::lowest_of::LowestOf;
+use chooser::refusal::Refusal::ProposedBefore;
 use record::kitty::Kitty;
 use record::record::Record;
 use ring::step::Step;
+use rows::letter::Letter;
 use rows::refusal::Refusal;
 use rows::size::RingSize;
 use std::process::Abort;
@@ -157,16 +159,54 @@ fn undecided(rt: HostRuntime) -> Result<(), Fail> {
     Ok(())
 }
 
-// A chooser that somebody else used refuses, and the node has not proposed.
+// A chooser that somebody else used refuses, and the node has not proposed; too few checks come first.
 #[test]
 fn chooser_used(rt: HostRuntime) -> Result<(), Fail> {
     let mut chooser = LowestOf::new(2)?;
     let mut desk = both_closed(&rt, &mut chooser)?;
+    chooser.propose(1, 0, (0, 0))?;
+    assert_eq!(rt; step_with(&mut desk, &mut chooser, 0), 18);
     assert_eq!(rt; desk.call(Call::Receive(8)), 0);
     assert_eq!(rt; desk.call(Call::Receive(10)), 0);
-    chooser.propose(1, 0, (0, 0))?;
     assert_eq!(rt; step_with(&mut desk, &mut chooser, 0), 20);
     assert_eq!(rt; chooser.count(1)?, 1);
-    assert_eq!(rt; step_with(&mut desk, &mut chooser, 0), 20);
+    let mut tables = lend(&mut desk.tray, &mut desk.book, &mut desk.sheets);
+    let again = desk
+        .ring
+        .step::<Kitty, LowestOf>(&mut tables, &mut chooser, 0);
+    assert!(rt; again == Err(Refusal::Chooser(ProposedBefore)));
+    assert_eq!(rt; ProposedBefore.number(), 33);
+    Ok(())
+}
+
+// A closing node takes a check of the stage before without keeping it.
+#[test]
+fn check_of_an_earlier_stage(rt: HostRuntime) -> Result<(), Fail> {
+    let mut desk = Desk::started(1, 1)?;
+    let calls = [
+        Call::Broadcast(0, PAY),
+        Call::Broadcast(0, DRAW),
+        Call::Receive(0),
+        Call::Receive(1),
+        Call::Step(0),
+        Call::Receive(2),
+        Call::Step(0),
+        Call::Step(0),
+        Call::Broadcast(0, PAY),
+        Call::Broadcast(0, DRAW),
+        Call::Receive(3),
+        Call::Receive(4),
+        Call::Step(0),
+    ];
+    check_all(&rt, &mut desk, &calls, 0);
+    let check = desk.tray[5];
+    desk.tray[5] = Letter { stage: 1, ..check };
+    assert_eq!(rt; desk.call(Call::Receive(5)), 0);
+    assert_eq!(rt; desk.call(Call::Step(0)), 18);
+    desk.tray[5] = check;
+    assert_eq!(rt; desk.call(Call::Receive(5)), 0);
+    assert_eq!(rt; desk.call(Call::Step(0)), 0);
+    assert_eq!(rt; desk.call(Call::Step(0)), 0);
+    assert_eq!(rt; desk.sheet(0)?, [0, 1, 2, 3].as_slice());
     Ok(())
 }
