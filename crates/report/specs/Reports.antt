@@ -1,9 +1,10 @@
 -- What the program `day` prints for its input.
-use Rattle.std.specs.Prelude.{◌≡◌, ℕ, Bool, true, false, List, ◌++◌, length, replicate, Some, None, Ok, Err, Option, Result}
-use Rattle.std.specs.Prelude.{nat_lt}
+use Rattle.std.specs.Prelude.{◌≡◌, ℕ, ◌<◌, ◌≤◌, Bool, true, false, List, ◌++◌, length, replicate, Some, None, Ok, Err, Option, Result}
+use Rattle.std.specs.Prelude.{nat_lt, slice_index_or}
 use Rattle.record.specs.Kind.{Kind}
 use Rattle.record.specs.RecordKind.{kind_of}
-use Rattle.chooser.specs.Meaning.{Meaning}
+use Rattle.chooser.specs.LowestOf.{node_at}
+use Rattle.chooser.specs.Meaning.{Meaning, sets_of, no_proposal}
 use Rattle.chooser.specs.Ruled.{Fresh}
 use Rattle.rows.specs.Conflicts.{no_command}
 use Rattle.rows.specs.Letters.{no_letter}
@@ -32,12 +33,12 @@ abbrev pub day_text : Result Tally Refusal → RingSize → World → List ℕ
 day_text (Ok t) z w = ended (nodes_text w z.n ++ counts_text t.accepted t.refused) t.fault
 day_text (Err e) z w = start_text e
 
--- the text s is that of a day of this kind and size, of the bytes from p on, with a chooser of this meaning
-pub record Printed (K : Kind) (z : RingSize) (bytes : List ℕ) (p : ℕ) (M : Meaning) (s : List ℕ) : Type 0 where
+-- the text s is that of a day of this kind and size, of the bytes from p on, with a chooser that means M before it and N
+-- after it
+pub record Printed (K : Kind) (z : RingSize) (bytes : List ℕ) (p : ℕ) (M N : Meaning) (s : List ℕ) : Type 0 where
   pub answer : Result Tally Refusal
   pub left : World
-  pub meaning : Meaning
-  pub ran : Days K z bytes p outset M answer left meaning
+  pub ran : Days K z bytes p outset M answer left N
   pub told : s ≡ day_text answer z left
 
 -- ---- by the header
@@ -47,12 +48,22 @@ abbrev pub need_of : ChooserKind → ℕ → ℕ
 need_of FirstCome q = 1
 need_of LowestOf q = q
 
--- a size that is refused prints its number; otherwise a day is run, of that size, with a new chooser
+-- the decisions of a chooser of this kind: First-come has one proposal to decide by, and Lowest-of takes of the first so
+-- many one whose node none of their nodes is below
+abbrev pub Chosen : ChooserKind → Meaning → Type 0
+Chosen FirstCome M = Unit {0}
+Chosen LowestOf M =
+    (s : ℕ) → M.need ≤ length (M.proposals s) →
+    (k : ℕ) × (k < M.need) × ((i : ℕ) → i < M.need → node_at (M.proposals s) k ≤ node_at (M.proposals s) i)
+    × (M.decision s ≡ Some (sets_of (slice_index_or (M.proposals s) k no_proposal)))
+
+-- a size that is refused prints its number; otherwise a day is run, of that size, with a new chooser, whose decisions stay
+-- and at the end are those of its kind
 abbrev pub BySize : Option Refusal → Header → List ℕ → ℕ → List ℕ → Type 0
 BySize (Some e) h bytes p s = s ≡ start_text e
 BySize None h bytes p s =
-    (z : RingSize) × (M : Meaning) × (z.n ≡ h.n) × (z.q ≡ h.q) × Fresh (need_of h.chooser h.q) M
-    × Printed (kind_of h.«record») z bytes p M s
+    (z : RingSize) × (M : Meaning) × (N : Meaning) × (z.n ≡ h.n) × (z.q ≡ h.q) × Fresh (need_of h.chooser h.q) M
+    × Chosen h.chooser N × Printed (kind_of h.«record») z bytes p M N s
 
 -- a header at fault prints the fault alone
 abbrev pub ByHeader : Result (Header × ℕ) EntryFault → List ℕ → List ℕ → Type 0

@@ -50,7 +50,7 @@ pub fn day_text<R: Record, C: Chooser>(
     chooser: &mut C,
 ) -> Result<String, AllocError>
     ensures { IfOk result (λ s. Printed R.Record.kind size reader.entry.bytes.now reader.entry.place
-        (C.Chooser.meaning chooser.old) (string_bytes s)) }
+        (C.Chooser.meaning chooser.old) (C.Chooser.meaning chooser.new) (string_bytes s)) }
 {
     let mut tray = [Letter::default(); 1024];
     let mut book = [Command::default(); 64];

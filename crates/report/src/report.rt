@@ -32,7 +32,7 @@ fn with_chooser<C: Chooser>(
     chooser: &mut C,
 ) -> Result<String, AllocError>
     ensures { IfOk result (λ s. Printed (kind_of kind) size reader.entry.bytes.now reader.entry.place
-        (C.Chooser.meaning chooser.old) (string_bytes s)) }
+        (C.Chooser.meaning chooser.old) (C.Chooser.meaning chooser.new) (string_bytes s)) }
 {
     // Stays a match: each arm is another type.
     match kind {

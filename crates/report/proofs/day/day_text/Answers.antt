@@ -33,4 +33,4 @@ returns-in-Ok g c =
     (sym same) day in
     IfOk-weaker c.day_lines.result _ _ (λ s h.
     let told : string_bytes s ≡ day_text c.run_day.result c.args.size viewed = rw c.in-Ok.is h in
-    record { answer = c.run_day.result; left = viewed; meaning = N; ran = seen; told = told }) c.day_lines.ensures
+    record { answer = c.run_day.result; left = viewed; ran = seen; told = told }) c.day_lines.ensures
