@@ -28,6 +28,9 @@ pub mod Losing
 pub mod Rest
 pub mod Running
 pub mod Promises
+pub mod Orderly
 pub mod Playing
 pub mod PlayingSteps
+pub mod PlayingFailures
 pub mod Witnesses
+pub mod WitnessCrash

@@ -37,7 +37,8 @@ acknowledged z r s =
 
 -- that is a call
 pub plays_acknowledge : (z : Size) (s : State) (r : ℕ) → (able z s r && not (s.node r).closing) ≡ true
-    → ((a b : ℕ) → s.conflict a b ≡ false) → Call z s (acknowledged z r s)
+    → ((a b : ℕ) → a ∈ undelivered (s.node r) → b ∈ undelivered (s.node r) → s.conflict a b ≡ false)
+    → Call z s (acknowledged z r s)
 plays_acknowledge z s r h free =
     let p : able z s r ≡ true = grind arith in
     let S = undelivered (s.node r) in
@@ -47,7 +48,7 @@ plays_acknowledge z s r h free =
     acknowledges r (record {
       steps = steps z s r p (s.sent + z.n) f g (λ i l. append_old s.sent s.letter new i l);
       gathering = grind arith;
-      free = λ a b u v. free a b;
+      free = free;
       sends = record { places = refl; new = λ y l. append_new s.sent s.letter new y };
       becomes = becomes z s (acknowledged z r s) r (after_acknowledging (s.node r)) refl;
       chooser = same_chooser s (s.sent + z.n) f g;

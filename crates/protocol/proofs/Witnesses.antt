@@ -14,7 +14,7 @@ use Rattle.protocol.proofs.PlayingSteps.{plays_close, proposed_by, plays_propose
 
 infixl 40 ◌▸◌
 -- a run, and one call more
-abbrev ◌▸◌ : {z : Size} {s t u : State} → Run z s t → Call z t u → Run z s u
+abbrev pub ◌▸◌ : {z : Size} {s t u : State} → Run z s t → Call z t u → Run z s u
 d ▸ c = goes_on d c
 
 -- a ring of one, and a ring of two
@@ -52,15 +52,15 @@ abbrev never : ℕ → ℕ → Bool
 never a b = false
 
 -- all different messages conflict
-abbrev always : ℕ → ℕ → Bool
+abbrev pub always : ℕ → ℕ → Bool
 always a b = not (eqb a b)
 
 -- from both sides
-always_sides : (a b : ℕ) → always a b ≡ always b a
+pub always_sides : (a b : ℕ) → always a b ≡ always b a
 always_sides a b = grind (arith, eqb-true a b, eqb-true b a, eq-eqb a b, eq-eqb b a)
 
 -- but no message with itself
-always_itself : (a : ℕ) → always a a ≡ false
+pub always_itself : (a : ℕ) → always a a ≡ false
 always_itself a = ap not (eq-eqb a a refl)
 
 -- ---- a node delivers early: it broadcasts, receives, acknowledges and hears itself
@@ -84,7 +84,7 @@ early_run =
     starts (begins one never (λ a b. refl) (λ a. refl))
     ▸ plays_broadcast one (beginning never) 0 refl (λ a b. refl) (λ a. refl)
     ▸ plays_own one early₁ 0 0 refl refl
-    ▸ plays_acknowledge one early₂ 0 refl (λ a b. refl)
+    ▸ plays_acknowledge one early₂ 0 refl (λ a b p q. refl)
     ▸ plays_hear one early₃ 1 refl
 
 -- afterwards both letters are taken and the node has acknowledged all that it received
@@ -246,12 +246,12 @@ orders_run =
     ▸ plays_broadcast two orders₁ 1 refl (λ a b. refl) (λ a. refl)
     ▸ plays_own two orders₂ 0 0 refl refl
     ▸ plays_own two orders₃ 3 1 refl refl
-    ▸ plays_acknowledge two orders₄ 0 refl (λ a b. refl)
-    ▸ plays_acknowledge two orders₅ 1 refl (λ a b. refl)
+    ▸ plays_acknowledge two orders₄ 0 refl (λ a b p q. refl)
+    ▸ plays_acknowledge two orders₅ 1 refl (λ a b p q. refl)
     ▸ plays_relay two orders₆ 2 1 refl refl
     ▸ plays_relay two orders₇ 1 0 refl refl
-    ▸ plays_acknowledge two orders₈ 0 refl (λ a b. refl)
-    ▸ plays_acknowledge two orders₉ 1 refl (λ a b. refl)
+    ▸ plays_acknowledge two orders₈ 0 refl (λ a b p q. refl)
+    ▸ plays_acknowledge two orders₉ 1 refl (λ a b p q. refl)
     ▸ plays_hear two orders₁₀ 4 refl
     ▸ plays_hear two orders₁₁ 14 refl
     ▸ plays_hear two orders₁₂ 12 refl

@@ -6,4 +6,5 @@ pub mod Nodes
 pub mod Calls
 pub mod Runs
 pub mod Promises
+pub mod Orderly
 pub mod Witnesses

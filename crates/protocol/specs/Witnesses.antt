@@ -1,6 +1,7 @@
 -- Runs that there are, so that no promise is empty.
 use Rattle.std.specs.Prelude.{◌≡◌, ℕ, true, false, [], ◌∷◌}
-use Rattle.protocol.specs.Ring.{Size, State}
+use Rattle.protocol.specs.Sets.{◌∉◌}
+use Rattle.protocol.specs.Ring.{Size, State, lost}
 use Rattle.protocol.specs.Runs.{Run}
 use Rattle.protocol.specs.Promises.{sheet, Quiet}
 
@@ -31,6 +32,20 @@ pub record DeliversInTwoOrders (s t : State) : Type 0 where
   pub one_order : sheet t 0 ≡ 0 ∷ 1 ∷ []
   pub other_order : sheet t 1 ≡ 1 ∷ 0 ∷ []
 
+-- A node crashes, and a letter to it is lost. Another node delivers a message early, at state t, and in a longer run settles
+-- it and one that it conflicts with by the decision, at state u: a ring of four.
+pub record OutlivesACrash (s t u : State) : Type 0 where
+  pub run : RunOf 4 s t
+  pub crashed : 3 ∉ t.live
+  pub lost : (t.letter 3).mark ≡ lost
+  pub early : sheet t 0 ≡ 0 ∷ []
+  pub same_stage : (t.node 0).stage ≡ 1
+  pub longer : Run run.size s u
+  pub still_crashed : 3 ∉ u.live
+  pub conflict : u.conflict 0 1 ≡ true
+  pub delivers : sheet u 0 ≡ 0 ∷ 1 ∷ []
+  pub next_stage : (u.node 0).stage ≡ 2
+
 -- there is a run that delivers early
 abbrev pub ARunDeliversEarly : Type 0
 ARunDeliversEarly = (s t : State) × DeliversEarly s t
@@ -42,3 +57,7 @@ ARunSettles = (s t : State) × SettlesByDecision s t
 -- there is a run with two orders
 abbrev pub ARunHasTwoOrders : Type 0
 ARunHasTwoOrders = (s t : State) × DeliversInTwoOrders s t
+
+-- there is a run that outlives a crash
+abbrev pub ARunOutlivesACrash : Type 0
+ARunOutlivesACrash = (s t u : State) × OutlivesACrash s t u

@@ -4,12 +4,19 @@
 #![tactic(auto)]
 
 ghost use Rattle.protocol.specs.Promises.{RunsAreSound};
-ghost use Rattle.protocol.specs.Witnesses.{ARunDeliversEarly, ARunSettles, ARunHasTwoOrders};
+ghost use Rattle.protocol.specs.Orderly.{CallsAreOrderly};
+ghost use Rattle.protocol.specs.Witnesses.{ARunDeliversEarly, ARunSettles, ARunHasTwoOrders, ARunOutlivesACrash};
 
 // Whatever calls a run makes from the start on, it comes to a state that keeps every promise.
 #[tactic(auto, using(crate::proofs::Promises::runs_are_sound))]
 pub fn runs_are_sound()
     ensures { RunsAreSound }
+{}
+
+// No call of a run takes back what was delivered, decided, taken or lost, and each is made by a node that may make it.
+#[tactic(auto, using(crate::proofs::Orderly::calls_are_orderly))]
+pub fn calls_are_orderly()
+    ensures { CallsAreOrderly }
 {}
 
 // There is a run in which a node delivers a message ahead of any decision.
@@ -28,4 +35,10 @@ pub fn a_run_settles()
 #[tactic(auto, using(crate::proofs::Witnesses::delivers_in_two_orders))]
 pub fn a_run_has_two_orders()
     ensures { ARunHasTwoOrders }
+{}
+
+// There is a run in which a node crashes, a letter to it is lost, and another node delivers early and settles a stage.
+#[tactic(auto, using(crate::proofs::WitnessCrash::outlives_a_crash))]
+pub fn a_run_outlives_a_crash()
+    ensures { ARunOutlivesACrash }
 {}
