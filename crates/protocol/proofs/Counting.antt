@@ -103,7 +103,11 @@ count_more (suc n) f g h m l p q = elim (cases_eq n m) [
   | inr d ↦ grind (arith, h n (omega arith), count_more n f g (λ i w. h i (omega arith)) m (omega arith) p q)
 ]
 
--- and with two members more counts two more
+-- so a set with a member counts
+pub count_some : (n : ℕ) (f : Set) (m : ℕ) → m < n → m ∈ f → 0 < count n f
+count_some n f m l q = omega (arith, count_more n none f (λ i w h. absurd (false≢true h)) m l refl q)
+
+-- and with two members more a set counts two more
 pub count_two : (n : ℕ) (f g : Set) → Within n f g → (a b : ℕ) → a < n → b < n → (a ≡ b → ⊥) → a ∉ f → b ∉ f → a ∈ g → b ∈ g
     → count n f + 2 ≤ count n g
 count_two n f g h a b la lb ne fa fb ga gb =
@@ -141,8 +145,7 @@ descend n f k (suc d) r b l e = elim (cases_lt 0 (count n lower)) [
       | inl v ↦ absurd (omega (
         arith,
         c,
-        count_more n none lower (λ i w h. absurd (false≢true h)) x lx refl
-            (and_from (f x) (ltb (k x) (k r)) ex (lt-ltb (k x) (k r) v)),
+        count_some n lower x lx (and_from (f x) (ltb (k x) (k r)) ex (lt-ltb (k x) (k r) v)),
       ))
       | inr v ↦ v
     ]

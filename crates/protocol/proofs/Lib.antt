@@ -31,6 +31,9 @@ pub mod Promises
 pub mod Orderly
 pub mod Playing
 pub mod PlayingSteps
+pub mod PlayingProposals
 pub mod PlayingFailures
+pub mod Progress
+pub mod Resting
 pub mod Witnesses
 pub mod WitnessCrash

@@ -1,6 +1,7 @@
 -- Calls as functions on states, so that a run can be written down and its state computed. What a call asks for is one
 -- test, which a written run passes by computing.
-use Rattle.std.proofs.Common.{◌≡◌, ℕ, ◌+◌, ◌-◌, ◌<◌, ◌≤◌, Bool, true, false, cond, not, ◌&&◌, eqb, ltb, leb, refl, ap, ◌∙◌, arith}
+use Rattle.std.proofs.Common.{◌≡◌, ℕ, ◌+◌, ◌-◌, ◌<◌, ◌≤◌, Bool, true, false, cond, not, ◌&&◌, eqb, ltb, leb, ◌⊎◌}
+use Rattle.std.proofs.Common.{refl, ap, ◌∙◌, arith}
 use Rattle.std.proofs.lemmas.Bool.{and_parts, eqb-true, eqb-false, eq-eqb, ne_eqb, ltb-true, lt-ltb, le-ltb, leb-true}
 use Rattle.std.proofs.lemmas.Bool.{cond-true, cond-false}
 use Rattle.protocol.specs.Sets.{Set, count, none, only}
@@ -8,7 +9,8 @@ use Rattle.protocol.specs.Ring.{Size, State, Node, Letter, data_letter, acknowle
 use Rattle.protocol.specs.Setters.{with_check}
 use Rattle.protocol.specs.Nodes.{fresh, after_data, after_hearing}
 use Rattle.protocol.specs.Calls.{SameBook, SameChooser, Marks, Becomes, Takes, new_letter, marked, taker}
-use Rattle.protocol.specs.Runs.{Start, Call, receives_own, relays, hears, keeps_check}
+use Rattle.protocol.specs.Runs.{Start, Call, receives_known, receives_own, relays, hears, passes_acknowledgement}
+use Rattle.protocol.specs.Runs.{keeps_check, passes_check}
 
 -- ---- functions changed at one number, or continued from one on
 
@@ -263,4 +265,53 @@ plays_keep z s i h =
       new = grind arith;
       silent = refl;
       becomes = becomes z s (kept_one i s) (s.letter i).receiver N refl;
+    })
+
+-- ---- receiving what changes no node
+
+-- the letter at place i is taken, and that is all
+abbrev pub passed_over : ℕ → State → State
+passed_over i s = with_post s.sent (took s i) s.node s
+
+-- that is a call where it is data of a message that its receiver has
+pub plays_known : (z : Size) (s : State) (i m : ℕ)
+    → (ready s i && (eqb (s.letter i).kind data_letter && (taker s i).received m)) ≡ true → (s.letter i).set ≡ only m
+    → Call z s (passed_over i s)
+plays_known z s i m h e =
+    let p : ready s i ≡ true = (and_parts (ready s i) _ h).0 in
+    receives_known i m (record {
+      takes = takes s i p s.sent (took s i) s.node (marks s i p s.node);
+      kind = eqb-true (s.letter i).kind data_letter (grind arith);
+      message = e;
+      known = grind arith;
+      silent = refl;
+      nodes = λ x l. refl;
+    })
+
+-- and where it is an acknowledgement that its receiver does not hear
+pub plays_pass_acknowledgement : (z : Size) (s : State) (i : ℕ)
+    → (ready s i && eqb (s.letter i).kind acknowledgement) ≡ true
+    → ((s.letter i).stage < (taker s i).stage) ⊎ ((taker s i).closing ≡ true) → Call z s (passed_over i s)
+plays_pass_acknowledgement z s i h late =
+    let p : ready s i ≡ true = (and_parts (ready s i) _ h).0 in
+    passes_acknowledgement i (record {
+      takes = takes s i p s.sent (took s i) s.node (marks s i p s.node);
+      kind = eqb-true (s.letter i).kind acknowledgement (grind arith);
+      late = late;
+      silent = refl;
+      nodes = λ x l. refl;
+    })
+
+-- and where it is a check that its receiver does not keep
+pub plays_pass_check : (z : Size) (s : State) (i : ℕ) → (ready s i && eqb (s.letter i).kind check_letter) ≡ true
+    → ((s.letter i).stage < (taker s i).stage) ⊎
+    ((z.chk ≤ count z.n (taker s i).kept) ⊎ ((taker s i).kept (s.letter i).sender ≡ true)) → Call z s (passed_over i s)
+plays_pass_check z s i h late =
+    let p : ready s i ≡ true = (and_parts (ready s i) _ h).0 in
+    passes_check i (record {
+      takes = takes s i p s.sent (took s i) s.node (marks s i p s.node);
+      kind = eqb-true (s.letter i).kind check_letter (grind arith);
+      late = late;
+      silent = refl;
+      nodes = λ x l. refl;
     })

@@ -1,14 +1,13 @@
 -- Steps, broadcasts and proposals as functions on states, as the receipts are in Playing.
-use Rattle.std.proofs.Common.{◌≡◌, ℕ, suc, ◌+◌, ◌<◌, ◌≤◌, Bool, true, false, not, ◌&&◌, eqb, ltb, leb, ◌⊎◌, refl, inl, inr, arith}
-use Rattle.std.proofs.lemmas.Bool.{and_left, true_from_ne_false, both_ways, eqb-true, eq-eqb, ne_eqb, ltb-true}
-use Rattle.std.proofs.lemmas.Bool.{leb-true, cond-true, cond-false}
-use Rattle.protocol.specs.Sets.{Set, ◌∈◌, ◌∉◌, count, only, ◌∖◌}
+use Rattle.std.proofs.Common.{◌≡◌, ℕ, suc, ◌+◌, Bool, true, false, not, ◌&&◌, ltb}
+use Rattle.std.proofs.Common.{refl, arith}
+use Rattle.std.proofs.lemmas.Bool.{ltb-true}
+use Rattle.protocol.specs.Sets.{◌∈◌, only}
 use Rattle.protocol.specs.Ring.{Size, State, Node, Letter, data_letter, acknowledgement, check_letter}
-use Rattle.protocol.specs.Setters.{with_closing, with_proposed}
-use Rattle.protocol.specs.Nodes.{after_acknowledging, after_settling, undelivered, tally}
-use Rattle.protocol.specs.Calls.{SameLetters, Steps, HandsIn, Chosen, new_letter}
-use Rattle.protocol.specs.Runs.{Call, broadcasts, acknowledges, closes, proposes, settles}
-use Rattle.protocol.proofs.Counting.{count_none}
+use Rattle.protocol.specs.Setters.{with_closing}
+use Rattle.protocol.specs.Nodes.{after_acknowledging, after_settling, undelivered}
+use Rattle.protocol.specs.Calls.{SameLetters, Steps, new_letter}
+use Rattle.protocol.specs.Runs.{Call, broadcasts, acknowledges, closes, settles}
 use Rattle.protocol.proofs.Playing.{update, update_here, update_else, append_old, append_new, with_post, posted, same_book}
 use Rattle.protocol.proofs.Playing.{same_chooser, becomes}
 
@@ -150,98 +149,4 @@ plays_broadcast z s r h sides itself =
         conflicting = refl;
       };
       live = refl;
-    })
-
--- ---- proposing
-
--- r proposes, the first of all, and the chooser decides at once
-abbrev pub proposed_by : Size → ℕ → State → State
-proposed_by z r s = record {
-  messages = s.messages;
-  conflict = s.conflict;
-  broadcaster = s.broadcaster;
-  sent = s.sent;
-  letter = s.letter;
-  node = update s.node r (with_proposed (s.node r));
-  live = s.live;
-  proposers = λ j x. eqb j (s.node r).stage && eqb x r;
-  proposal_nonconflicting = λ j x. tally z (s.node r);
-  proposal_conflicting = λ j x. undelivered (s.node r) ∖ tally z (s.node r);
-  decided = only (s.node r).stage;
-  nonconflicting = update s.nonconflicting (s.node r).stage (tally z (s.node r));
-  conflicting = update s.conflicting (s.node r).stage (undelivered (s.node r) ∖ tally z (s.node r));
-}
-
-module _ (z : Size) (s : State) (r : ℕ) (r-in : r < z.n) (nobody : (j x : ℕ) → x ∉ s.proposers j)
-    (undecided : (j : ℕ) → j ∉ s.decided) where
-  -- its stage
-  abbrev j : ℕ
-  j = (s.node r).stage
-
-  -- what it proposes as nonconflicting
-  abbrev V : Set
-  V = tally z (s.node r)
-
-  -- and what as conflicting
-  abbrev D : Set
-  D = undelivered (s.node r) ∖ tally z (s.node r)
-
-  -- a stage that the chooser decided is this one
-  decided_now : (l : ℕ) → l ∈ only j → Chosen z (proposed_by z r s) l
-  decided_now l h = record {
-    by = r;
-    in_ring = r-in;
-    made = grind (arith, h, eq-eqb r r refl);
-    nonconflicting = cond-true (eqb l j) V (s.nonconflicting l) h;
-    conflicting = cond-true (eqb l j) D (s.conflicting l) h;
-  }
-
-  -- and the stages with a proposal are decided
-  decides_now : (l : ℕ) → z.need ≤ count z.n (λ x. eqb l j && eqb x r) → l ∈ only j
-  decides_now l h = true_from_ne_false (eqb l j) (λ f.
-      omega (arith, h, z.need_pos, count_none z.n (λ x. eqb l j && eqb x r) (λ x k. and_left (eqb l j) (eqb x r) f)))
-
-  -- a stage that was decided or is another is not this one
-  other_stage : (l : ℕ) → (l ∈ s.decided) ⊎ (l ≡ j → ⊥) → eqb l j ≡ false
-  other_stage l (inl h) = absurd (both_ways (s.decided l) (undecided l) h)
-  other_stage l (inr d) = ne_eqb l j d
-
-  -- so the proposal is handed in
-  handed_in : HandsIn z s (proposed_by z r s) r j V D
-  handed_in = record {
-    first = nobody j r;
-    stands = grind (arith, eq-eqb j j refl, eq-eqb r r refl);
-    nonconflicting_is = refl;
-    conflicting_is = refl;
-    kept = λ l x h. absurd (both_ways (s.proposers l x) (nobody l x) h);
-    nonconflicting_kept = λ l x h. absurd (both_ways (s.proposers l x) (nobody l x) h);
-    conflicting_kept = λ l x h. absurd (both_ways (s.proposers l x) (nobody l x) h);
-    no_other = λ l x h. inr (eqb-true l j (grind arith), eqb-true x r (grind arith));
-    decisions_kept = λ l h. absurd (both_ways (s.decided l) (undecided l) h);
-    first_kept = λ l h. cond-false (eqb l j) V (s.nonconflicting l) (other_stage l h);
-    second_kept = λ l h. cond-false (eqb l j) D (s.conflicting l) (other_stage l h);
-    chosen = decided_now;
-    decides = decides_now;
-  }
-
--- that is a call
-pub plays_propose : (z : Size) (s : State) (r : ℕ)
-    → (able z s r && ((s.node r).closing && (not (s.node r).proposed && leb z.chk (count z.n (s.node r).kept)))) ≡ true
-    → ((j x : ℕ) → x ∉ s.proposers j) → ((j : ℕ) → j ∉ s.decided) → Call z s (proposed_by z r s)
-plays_propose z s r h nobody undecided =
-    let r-in : r < z.n = ltb-true r z.n (grind arith) in
-    proposes r (record {
-      steps = record {
-        in_ring = r-in;
-        alive = grind arith;
-        letters = λ i l. refl;
-        book = record { messages = refl; conflict = refl; broadcaster = refl };
-        live = refl;
-      };
-      closing = grind arith;
-      not_yet = grind arith;
-      enough = leb-true z.chk (count z.n (s.node r).kept) (grind arith);
-      hands_in = handed_in z s r r-in nobody undecided;
-      becomes = becomes z s (proposed_by z r s) r (with_proposed (s.node r)) refl;
-      silent = refl;
     })

@@ -7,15 +7,12 @@ use Rattle.protocol.specs.Sets.{◌∈◌, ◌∉◌, count}
 use Rattle.protocol.specs.Lists.{Mem}
 use Rattle.protocol.specs.Ring.{Size, State, data_letter, acknowledgement, check_letter, taken}
 use Rattle.protocol.specs.Promises.{Quiet, DeliveredEverywhere, BroadcastIsDelivered}
+use Rattle.protocol.specs.Progress.{Alive}
 use Rattle.protocol.proofs.Facts.{carry, Posted, Told, past, Settled, Cause, Copy}
 use Rattle.protocol.proofs.Invariant.{TakenBy, Ok}
 use Rattle.protocol.proofs.Counting.{count_mono, quorums_meet, lowest}
 use Rattle.protocol.proofs.Order.{past_up, past_first, early_decided}
 use Rattle.protocol.proofs.Stages.{few_stages}
-
--- x is a live node of the ring
-abbrev Alive : Size → State → ℕ → Type 0
-Alive z s x = (x < z.n) × (x ∈ s.live)
 
 module _ {z : Size} {s : State} (o : Ok z s) (q : Quiet z s) where
   -- ---- what live nodes send arrives

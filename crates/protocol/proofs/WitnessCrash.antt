@@ -9,7 +9,8 @@ use Rattle.protocol.specs.Witnesses.{ARunOutlivesACrash}
 use Rattle.protocol.proofs.Playing.{beginning, begins, own_data, plays_own, relayed, plays_relay, heard_one, plays_hear}
 use Rattle.protocol.proofs.Playing.{kept_one, plays_keep}
 use Rattle.protocol.proofs.PlayingSteps.{broadcast_by, plays_broadcast, acknowledged, plays_acknowledge, closed}
-use Rattle.protocol.proofs.PlayingSteps.{plays_close, proposed_by, plays_propose, settled, plays_settle}
+use Rattle.protocol.proofs.PlayingSteps.{plays_close, settled, plays_settle}
+use Rattle.protocol.proofs.PlayingProposals.{proposed_by, plays_first}
 use Rattle.protocol.proofs.PlayingFailures.{crashed, plays_crash, lost_one, plays_loss}
 use Rattle.protocol.proofs.Witnesses.{◌▸◌, always, always_sides, always_itself}
 
@@ -144,7 +145,7 @@ crash_run =
     ▸ plays_keep four crash₁₉ 36 refl
     ▸ plays_keep four crash₂₀ 40 refl
     ▸ plays_keep four crash₂₁ 44 refl
-    ▸ plays_propose four crash₂₂ 0 refl (λ j x. refl) (λ j. refl)
+    ▸ plays_first four crash₂₂ 0 refl (λ j x. refl) (λ j. refl)
     ▸ plays_settle four crash₂₃ 0 refl
 
 -- what it shows

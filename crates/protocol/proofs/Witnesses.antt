@@ -10,7 +10,8 @@ use Rattle.protocol.specs.Witnesses.{ARunDeliversEarly, ARunSettles, ARunHasTwoO
 use Rattle.protocol.proofs.Playing.{beginning, begins, own_data, plays_own, relayed, plays_relay, heard_one, plays_hear}
 use Rattle.protocol.proofs.Playing.{kept_one, plays_keep}
 use Rattle.protocol.proofs.PlayingSteps.{broadcast_by, plays_broadcast, acknowledged, plays_acknowledge, closed}
-use Rattle.protocol.proofs.PlayingSteps.{plays_close, proposed_by, plays_propose, settled, plays_settle}
+use Rattle.protocol.proofs.PlayingSteps.{plays_close, settled, plays_settle}
+use Rattle.protocol.proofs.PlayingProposals.{proposed_by, plays_first}
 
 infixl 40 ◌▸◌
 -- a run, and one call more
@@ -164,7 +165,7 @@ settle_run =
     ▸ plays_own one settle₃ 1 1 refl refl
     ▸ plays_close one settle₄ 0 0 1 refl
     ▸ plays_keep one settle₅ 2 refl
-    ▸ plays_propose one settle₆ 0 refl (λ j x. refl) (λ j. refl)
+    ▸ plays_first one settle₆ 0 refl (λ j x. refl) (λ j. refl)
     ▸ plays_settle one settle₇ 0 refl
 
 -- what it shows

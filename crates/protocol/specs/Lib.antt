@@ -7,4 +7,5 @@ pub mod Calls
 pub mod Runs
 pub mod Promises
 pub mod Orderly
+pub mod Progress
 pub mod Witnesses

@@ -5,6 +5,7 @@
 
 ghost use Rattle.protocol.specs.Promises.{RunsAreSound};
 ghost use Rattle.protocol.specs.Orderly.{CallsAreOrderly};
+ghost use Rattle.protocol.specs.Progress.{RunsCanGoOn, QuietIsRest};
 ghost use Rattle.protocol.specs.Witnesses.{ARunDeliversEarly, ARunSettles, ARunHasTwoOrders, ARunOutlivesACrash};
 
 // Whatever calls a run makes from the start on, it comes to a state that keeps every promise.
@@ -17,6 +18,18 @@ pub fn runs_are_sound()
 #[tactic(auto, using(crate::proofs::Orderly::calls_are_orderly))]
 pub fn calls_are_orderly()
     ensures { CallsAreOrderly }
+{}
+
+// Whatever state a run comes to, each call that its nodes and letters allow can be made.
+#[tactic(auto, using(crate::proofs::Progress::runs_can_go_on))]
+pub fn runs_can_go_on()
+    ensures { RunsCanGoOn }
+{}
+
+// A ring that a run comes to is quiet just if enough nodes live and no call does anything new.
+#[tactic(auto, using(crate::proofs::Resting::quiet_is_rest))]
+pub fn quiet_is_rest()
+    ensures { QuietIsRest }
 {}
 
 // There is a run in which a node delivers a message ahead of any decision.
