@@ -1,6 +1,6 @@
 -- Two lists with the same numbers that have each conflicting pair in one order fold to the same result: the head of the one
 -- list can be pulled to the front of the other past numbers that it does not conflict with.
-use Rattle.std.proofs.Common.{◌≡◌, ℕ, Bool, true, false, ◌⊎◌, List, [], ◌∷◌, sym, refl, ap, ◌∙◌, subst, inl, inr, arith}
+use Rattle.std.proofs.Common.{◌≡◌, ℕ, Bool, true, false, ◌⊎◌, List, [], ◌∷◌, ◌++◌, sym, refl, ap, ◌∙◌, subst, inl, inr, arith}
 use Rattle.std.proofs.lemmas.Bool.{cases_Bool}
 use Rattle.protocol.specs.Lists.{Mem, Once, Before, fold}
 use Rattle.protocol.proofs.Lists.{before_mem, before_apart}
@@ -54,6 +54,11 @@ on_tail : (a : ℕ) (t : List ℕ) (x : ℕ) → Mem x (a ∷ t) → (a ≡ x �
 on_tail a t x m n = grind (arith, n, m)
 
 -- ---- folding
+
+-- a joined list is folded part by part
+pub fold_append : {S : Type 0} (after : S → ℕ → S) (q : S) (l k : List ℕ) → fold after q (l ++ k) ≡ fold after (fold after q l) k
+fold_append after q [] k = refl
+fold_append after q (x ∷ l) k = fold_append after (after q x) l k
 
 module _ {S : Type 0} (after : S → ℕ → S) (Fits : S → Type 0) (keeps : (s : S) (x : ℕ) → Fits s → Fits (after s x))
     (conflict : ℕ → ℕ → Bool) (both_sides : (x y : ℕ) → conflict x y ≡ conflict y x)
