@@ -29,16 +29,16 @@ use Rattle.ring.proofs.HistoryTold.{accepted_call, refused_call, history_told}
 use Rattle.ring.proofs.NodesKept.{rows_kept}
 use Rattle.ring.proofs.Seeing.{Joined}
 use Rattle.ring.proofs.StartJoined.{row_is_new, start_high, start_joined}
-use Rattle.node.specs.Tables.{lent}
+use Rattle.node.specs.Tables.{Lent, lent}
 use Rattle.node.specs.Takes.{nobody}
-use Rattle.node.specs.Events.{Event, told, Alone, hears}
-use Rattle.node.specs.Events.{begins as nothing_yet}
-use Rattle.node.specs.Alike.{Names, given_on, member_in, sheet_part, blank, GoesAlike}
+use Rattle.node.specs.Events.{Event, told, Alone}
+use Rattle.node.specs.Alike.{Names, given_on, member_in, sheet_part, blank, GoesAlike, NowhereElse}
 use Rattle.node.specs.States.{new_member}
 use Rattle.node.specs.declared.member.Member.{Member}
+use Rattle.node.proofs.Events.{alone_once}
 use Rattle.node.proofs.ReceiptsGiven.{receives_alike}
 use Rattle.node.proofs.TurnsGiven.{steps_alike}
-use Rattle.node.proofs.Unmoved.{unmoved}
+use Rattle.node.proofs.EventsGiven.{unmoved, given_one}
 
 -- ---- a broadcast
 
@@ -71,12 +71,7 @@ module _ {K : Kind} {z : RingSize} {need : ℕ} {low : 1 ≤ need} {high : need 
 
   -- and its book has its command
   broadcast_alike : GoesAlike K z m₀ i (broadcast_by w node c) (es ++ told now node c ∷ [])
-  broadcast_alike = record {
-    broadcasters = set g.broadcasters now node;
-    letters = g.letters;
-    named = named;
-    alone = hears es (member_in z w i) (lent w.book g.broadcasters g.letters (sheet_part w i)) now node c g.alone;
-  }
+  broadcast_alike = given_one g (broadcast_by w node c) (told now node c) (set g.broadcasters now node) g.letters named (refl, refl)
 
 -- ---- a crash: it leaves all rows
 
@@ -117,11 +112,11 @@ module _ {K : Kind} (laws : Laws K) (z : RingSize) (u : World) {M₀ : Meaning} 
         };
         alone =
             let P : Row → List Command → List ℕ → Type 0 = λ row book sheet.
-            Alone K (new_member z i) (blank z) [] (record { number = i; size = z; row = row })
+            Alone K [] (new_member z i) (blank z) (record { number = i; size = z; row = row })
             (lent book (replicate 64 nobody) letters sheet) in
             subst (λ (row : Row). P row v₀.book (sheet_part v₀ i)) (sym row-is)
             (subst (λ (book : List Command). P (new_member z i).row book (sheet_part v₀ i)) (sym book-is)
-            (subst (λ (sheet : List ℕ). P (new_member z i).row (replicate 64 no_command) sheet) (sym sheet-is) nothing_yet));
+            (subst (λ (sheet : List ℕ). P (new_member z i).row (replicate 64 no_command) sheet) (sym sheet-is) (refl, refl)));
       }
 
   -- what is known at every point of the day
@@ -164,11 +159,25 @@ module _ {K : Kind} (laws : Laws K) (z : RingSize) (u : World) {M₀ : Meaning} 
 
 -- ---- a day from an accepted start, as the law has it
 
-pub goes_as_in_a_ring : (z : RingSize) (i : ℕ) → i < z.n → (m₀ : Member) → m₀ ≡ new_member z i → (K : Kind) → Laws K
-    → (u v : World) (M : Meaning) → Sound M → Starts z u M (Ok tt) v → (w : World) (N : Meaning) (d : Day K v M w N)
-    → lives w i ≡ true → GoesAlike K z m₀ i w (given_on i d)
-goes_as_in_a_ring z i inside m₀ first K laws u v M sound h w N d alive =
+-- it goes alike
+goes_alike : (z : RingSize) (i : ℕ) → i < z.n → (m₀ : Member) → m₀ ≡ new_member z i → (K : Kind) → Laws K → (u v : World)
+    (M : Meaning) → Sound M → Starts z u M (Ok tt) v → (w : World) (N : Meaning) (d : Day K v M w N) → lives w i ≡ true
+    → GoesAlike K z m₀ i w (given_on i d)
+goes_alike z i inside m₀ first K laws u v M sound h w N d alive =
     let a = accepted_call (start_refusal z u M) tt tt (started z u) u v h.0 h.1 in
     subst (λ (m : Member). GoesAlike K z m i w (given_on i d)) (sym first)
     (subst (λ (x : World). (e : Day K x M w N) → GoesAlike K z (new_member z i) i w (given_on i e)) (sym a.2)
     (λ e. day_alike laws z u sound a.0 inside e alive) d)
+
+-- and in no other way
+pub goes_as_in_a_ring : (z : RingSize) (i : ℕ) → i < z.n → (m₀ : Member) → m₀ ≡ new_member z i → (K : Kind) → Laws K
+    → (u v : World) (M : Meaning) → Sound M → Starts z u M (Ok tt) v → (w : World) (N : Meaning) (d : Day K v M w N)
+    → lives w i ≡ true → GoesAlike K z m₀ i w (given_on i d) × NowhereElse K z m₀ i w (given_on i d)
+goes_as_in_a_ring z i inside m₀ first K laws u v M sound h w N d alive =
+    let g = goes_alike z i inside m₀ first K laws u v M sound h w N d alive in (
+      g,
+      λ k t a.
+          let same = alone_once K (given_on i d) m₀ (blank z) k (member_in z w i) t
+          (lent w.book g.broadcasters g.letters (sheet_part w i)) a g.alone in
+          (ap (λ (m : Member). m.row) same.0, ap (λ (x : Lent). x.sheet) same.1),
+    )

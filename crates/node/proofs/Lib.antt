@@ -1,4 +1,6 @@
 pub mod DayAlike
+pub mod Events
+pub mod EventsGiven
 pub mod LettersSent
 pub mod LettersTaken
 pub mod ReceiptsAlike
@@ -6,4 +8,3 @@ pub mod ReceiptsGiven
 pub mod SheetPart
 pub mod TurnsAlike
 pub mod TurnsGiven
-pub mod Unmoved

@@ -23,17 +23,17 @@ use Rattle.ring.proofs.NodesKept.{row_elsewhere}
 use Rattle.ring.proofs.ReceiptWays.{accepted}
 use Rattle.ring.proofs.ReceiptWays.{unspoilt as seen_unspoilt}
 use Rattle.ring.proofs.Seeing.{Joined}
-use Rattle.node.specs.Tables.{Lent, lent}
+use Rattle.node.specs.Tables.{Lent}
 use Rattle.node.specs.Takes.{take_refusal, relayed, taken_lent, unfit, Takes}
 use Rattle.node.specs.Takes.{taken as taken_by}
-use Rattle.node.specs.Events.{Event, took, is_thrown_away, HandedOver, Alone, takes}
-use Rattle.node.specs.Alike.{is_its_own, posted, given, member_in, sheet_part, blank, GoesAlike}
+use Rattle.node.specs.Events.{Event, took, is_thrown_away, HandedOver}
+use Rattle.node.specs.Alike.{is_its_own, posted, given, member_in, GoesAlike}
 use Rattle.node.specs.declared.member.Member.{Member}
 use Rattle.node.proofs.LettersSent.{none_travels, nothing_behind}
 use Rattle.node.proofs.LettersTaken.{tables, tables_fit, fits}
 use Rattle.node.proofs.ReceiptsAlike.{handed, sends_alike}
 use Rattle.node.proofs.SheetPart.{taken_elsewhere}
-use Rattle.node.proofs.Unmoved.{unmoved, nothing_given}
+use Rattle.node.proofs.EventsGiven.{unmoved, nothing_given, given_one}
 
 -- ---- causes
 
@@ -96,16 +96,9 @@ module _ {K : Kind} {z : RingSize} {need : ℕ} {low : 1 ≤ need} {high : need 
           → GoesAlike K z m₀ l.receiver (received w place) (es ++ took l (Ok tt) (posted w (received w place)) ∷ [])
       own_accepted h =
           let v = received w place in
-          let u : Lent = lent w.book g.broadcasters (relayed t m l) (sheet_part v l.receiver) in
-          record {
-            broadcasters = g.broadcasters;
-            letters = relayed t m l;
-            named = record { places = g.named.places; broadcast = g.named.broadcast; others = g.named.others };
-            alone = subst (λ (xs : List Letter). Alone K m₀ (blank z) (es ++ took l (Ok tt) xs ∷ []) (member_in z v l.receiver) u)
-                (sends_alike j place h g.broadcasters g.named inside)
-                (takes es m (lent w.book g.broadcasters g.letters (sheet_part w l.receiver)) l (Ok tt) u (member_in z v l.receiver)
-                g.alone (handed j place h g.broadcasters g.named inside));
-          }
+          given_one g v (took l (Ok tt) (posted w v)) g.broadcasters (relayed t m l)
+          (record { places = g.named.places; broadcast = g.named.broadcast; others = g.named.others })
+          (handed j place h g.broadcasters g.named inside, sym (sends_alike j place h g.broadcasters g.named inside))
 
       -- the causes of the ring where the node lives
       ring_causes : receive_refusal w place ≡
@@ -160,14 +153,8 @@ module _ {K : Kind} {z : RingSize} {need : ℕ} {low : 1 ≤ need} {high : need 
             | inl y ↦ subst (λ (b : Bool). HandedOver b t m l (Err x) t m) (sym y) (refl, refl)
             | inr y ↦ subst (λ (b : Bool). HandedOver b t m l (Err x) t m) (sym y) refused
           ] in
-          record {
-            broadcasters = g.broadcasters;
-            letters = replicate z.n no_letter;
-            named = g.named;
-            alone = subst (λ (xs : List Letter). Alone K m₀ (blank z) (es ++ took l (Err x) xs ∷ []) m t)
-                (none_travels z.n ∙ sym (nothing_behind w.tray w.ring.used j.fine.used_in_tray))
-                (takes es m (lent w.book g.broadcasters g.letters (sheet_part w l.receiver)) l (Err x) t m g.alone handed_back);
-          }
+          given_one g w (took l (Err x) (posted w w)) g.broadcasters (replicate z.n no_letter) g.named
+          (handed_back, nothing_behind w.tray w.ring.used j.fine.used_in_tray ∙ sym (none_travels z.n))
 
       -- any of them
       own_by_cause : (o : Option Refusal) → receive_refusal w place ≡ o

@@ -1,5 +1,5 @@
 -- A step of the node of a ring is a turn of the node by itself, and both go alike.
-use Rattle.std.proofs.Common.{◌≡◌, ℕ, ◌+◌, ◌<◌, ◌≤◌, Bool, true, false, not, ◌||◌, eqb, List, [], ◌∷◌, ◌++◌, take, drop}
+use Rattle.std.proofs.Common.{◌≡◌, ℕ, ◌+◌, ◌<◌, ◌≤◌, Bool, true, false, not, ◌||◌, eqb, List, ◌++◌, take, drop}
 use Rattle.std.proofs.Common.{replicate, Some, None, Ok, Err, Option, Result, sym, refl, ap, ◌∙◌, subst, inl, inr, arith}
 use Rattle.std.specs.List.{filter}
 use Rattle.std.proofs.lemmas.Bool.{cases_Bool, or_from, or_left, true≢false, not_from_true, eq-eqb, ltb-false, cond-true, cond-false}
@@ -34,13 +34,13 @@ use Rattle.ring.proofs.SettlementJoined.{told_stands, first_small, second_small}
 use Rattle.node.specs.Tables.{Lent, lent, table_refusal}
 use Rattle.node.specs.Gathers.{acknowledge_refusal, close_refusal, nothing_new, has_conflict}
 use Rattle.node.specs.Decides.{node_propose_refusal, node_settle_refusal}
-use Rattle.node.specs.Events.{Event, turned, Turns, Alone, turns}
-use Rattle.node.specs.Alike.{is_its_own, is_answered, Names, posted, stepped, member_in, sheet_part, blank, GoesAlike}
+use Rattle.node.specs.Events.{Event, turned, Turns}
+use Rattle.node.specs.Alike.{is_its_own, is_answered, Names, posted, stepped, member_in, sheet_part, GoesAlike}
 use Rattle.node.specs.declared.member.Member.{Member}
 use Rattle.node.proofs.LettersSent.{travels, none_travels, sent_behind, nothing_behind, sent_alone}
 use Rattle.node.proofs.LettersTaken.{tables, tables_fit}
 use Rattle.node.proofs.SheetPart.{settled_here}
-use Rattle.node.proofs.Unmoved.{nothing_given}
+use Rattle.node.proofs.EventsGiven.{nothing_given, given_one}
 
 -- whether a cause is the node's own
 abbrev own_cause : Option Refusal → Bool
@@ -79,17 +79,10 @@ module _ {K : Kind} {z : RingSize} {need : ℕ} {low : 1 ≤ need} {high : need 
     turn : (r : Result Step Refusal) (v : World) (N : Meaning) (letters : List Letter) → Names v g.broadcasters
         → Turns K.conflicts (row_of w i).phase t m M r (lent v.book g.broadcasters letters (sheet_part v i)) (member_in z v i) N
         → filter travels letters ≡ posted w v → is_answered r ≡ true → GoesAlike K z m₀ i v (es ++ stepped i w M i r v N)
-    turn r v N letters named h sends answered = record {
-      broadcasters = g.broadcasters;
-      letters = letters;
-      named = named;
-      alone =
-          let u : Lent = lent v.book g.broadcasters letters (sheet_part v i) in
-          let P : List Event → Type 0 = λ xs. Alone K m₀ (blank z) (es ++ xs) (member_in z v i) u in
-          subst P (sym (cond-true (eqb i i) _ _ (eq-eqb i i refl) ∙ cond-true (is_answered r) _ _ answered))
-          (subst (λ (xs : List Letter). P (turned M r N xs ∷ [])) sends
-          (turns es m (lent w.book g.broadcasters g.letters (sheet_part w i)) M r N u (member_in z v i) g.alone h));
-    }
+    turn r v N letters named h sends answered =
+        subst (λ (xs : List Event). GoesAlike K z m₀ i v (es ++ xs))
+        (sym (cond-true (eqb i i) _ _ (eq-eqb i i refl) ∙ cond-true (is_answered r) _ _ answered))
+        (given_one g v (turned M r N (posted w v)) g.broadcasters letters named (h, sym sends))
 
     -- one that is refused for a cause of the node leaves all, and sends nothing
     turned_down : (x : Refusal) → (is_its_own x ≡ true → Turns K.conflicts (row_of w i).phase t m M (Err x) t m M)

@@ -28,7 +28,7 @@ use Rattle.node.specs.Alike.{stepped, GoesAlike}
 use Rattle.node.specs.declared.member.Member.{Member}
 use Rattle.node.proofs.SheetPart.{settled_elsewhere}
 use Rattle.node.proofs.TurnsAlike.{by_phase}
-use Rattle.node.proofs.Unmoved.{unmoved, nothing_given}
+use Rattle.node.proofs.EventsGiven.{unmoved, nothing_given}
 
 module _ {K : Kind} {z : RingSize} {need : ℕ} {low : 1 ≤ need} {high : need ≤ z.q} {w : World} {M : Meaning} {m₀ : Member} {i : ℕ}
     {es : List Event} (j : Joined K z need low high w M) (g : GoesAlike K z m₀ i w es) where

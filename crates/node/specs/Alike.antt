@@ -106,7 +106,12 @@ pub record GoesAlike (K : Kind) (z : RingSize) (m₀ : Member) (i : ℕ) (w : Wo
   pub broadcasters : List ℕ
   pub letters : List Letter
   pub named : Names w broadcasters
-  pub alone : Alone K m₀ (blank z) es (member_in z w i) (lent w.book broadcasters letters (sheet_part w i))
+  pub alone : Alone K es m₀ (blank z) (member_in z w i) (lent w.book broadcasters letters (sheet_part w i))
+
+-- It can come to no other row and to no other sheet.
+abbrev pub NowhereElse : Kind → RingSize → Member → ℕ → World → List Event → Type 0
+NowhereElse K z m₀ i w es =
+    (k : Member) (u : Lent) → Alone K es m₀ (blank z) k u → (k.row ≡ row_of w i) × (u.sheet ≡ sheet_part w i)
 
 -- Whatever day a ring of that size has, with whatever kind of record and chooser: as long as the node lives there, the
 -- node by itself, given what that node is given on the day, answers the same to all of it, sends the same letters, and
@@ -114,5 +119,6 @@ pub record GoesAlike (K : Kind) (z : RingSize) (m₀ : Member) (i : ℕ) (w : Wo
 abbrev pub GoesAsInARing : RingSize → ℕ → Result Gathering Refusal → Type 0
 GoesAsInARing z i (Ok g) =
     (K : Kind) → Laws K → (u v : World) (M : Meaning) → Sound M → Starts z u M (Ok tt) v →
-    (w : World) (N : Meaning) (d : Day K v M w N) → lives w i ≡ true → GoesAlike K z g.member i w (given_on i d)
+    (w : World) (N : Meaning) (d : Day K v M w N) → lives w i ≡ true →
+    GoesAlike K z g.member i w (given_on i d) × NowhereElse K z g.member i w (given_on i d)
 GoesAsInARing z i (Err e) = Unit {0}

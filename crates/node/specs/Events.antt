@@ -1,5 +1,5 @@
 -- What a node by itself is given to do, with what it answers, and what that makes of it.
-use Rattle.std.specs.Prelude.{◌≡◌, ℕ, Bool, true, false, not, ◌&&◌, List, [], ◌∷◌, ◌++◌, Ok, Err, Result, ◌==◌, slice_set, replicate}
+use Rattle.std.specs.Prelude.{◌≡◌, ℕ, Bool, true, false, not, ◌&&◌, List, [], ◌∷◌, Ok, Err, Result, ◌==◌, slice_set, replicate}
 use Rattle.std.specs.List.{filter}
 use Rattle.record.specs.Kind.{Kind}
 use Rattle.record.specs.declared.command.Command.{Command}
@@ -84,14 +84,13 @@ Turns conflicts Waiting t m M r u k N = SettlesAlone t m M r u k N
 
 -- ---- all of them
 
--- the nodes and the tables that a list of events makes of one node and its tables
-pub data Alone (K : Kind) (m₀ : Member) (t₀ : Lent) : List Event → Member → Lent → Type 0 where
-  begins : Alone K m₀ t₀ [] m₀ t₀
-  hears : (es : List Event) (m : Member) (t : Lent) (i node : ℕ) (c : Command) →
-      Alone K m₀ t₀ es m t → Alone K m₀ t₀ (es ++ told i node c ∷ []) m (written i node c t)
-  takes : (es : List Event) (m : Member) (t : Lent) (l : Letter) (r : Result (Unit {0}) Refusal) (u : Lent) (k : Member) →
-      Alone K m₀ t₀ es m t → HandedOver (is_thrown_away m l) (ready m.size.n t) m l r u k →
-      Alone K m₀ t₀ (es ++ took l r (outgoing u) ∷ []) k u
-  turns : (es : List Event) (m : Member) (t : Lent) (M : Meaning) (r : Result Step Refusal) (N : Meaning) (u : Lent)
-      (k : Member) → Alone K m₀ t₀ es m t → Turns K.conflicts m.row.phase (ready m.size.n t) m M r u k N →
-      Alone K m₀ t₀ (es ++ turned M r N (outgoing u) ∷ []) k u
+-- what one event makes of a node and its tables
+abbrev pub Does : Kind → Event → Member → Lent → Member → Lent → Type 0
+Does K (told i node c) m t k u = (k ≡ m) × (u ≡ written i node c t)
+Does K (took l r sent) m t k u = HandedOver (is_thrown_away m l) (ready m.size.n t) m l r u k × (sent ≡ outgoing u)
+Does K (turned M r N sent) m t k u = Turns K.conflicts m.row.phase (ready m.size.n t) m M r u k N × (sent ≡ outgoing u)
+
+-- and a list of them, in turn
+abbrev pub Alone : Kind → List Event → Member → Lent → Member → Lent → Type 0
+Alone K [] m t k u = (k ≡ m) × (u ≡ t)
+Alone K (e ∷ es) m t k u = (m₁ : Member) × (t₁ : Lent) × Does K e m t m₁ t₁ × Alone K es m₁ t₁ k u
