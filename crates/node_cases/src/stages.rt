@@ -1,0 +1,129 @@
+use crate::desk::*;
+use crate::letters::*;
+use crate::server::*;
+use chooser::chooser::Chooser;
+use rows::row::Phase;
+use std::test::Fail;
+
+// Three payments. Each is delivered with the third node that acknowledges it, in the order in which that comes; data of
+// a known message, and data that the node broadcast itself, is not relayed.
+#[test]
+fn early(rt: HostRuntime) -> Result<(), Fail> {
+    let mut desk = Desk::new([PAY, PAY, PAY], 1)?;
+    let server = Server::new(&desk)?;
+    let received = [
+        (Call::Data(data(0, 1)), Seen::Sent(data(1, 1))),
+        (Call::Data(data(2, 1)), Seen::Taken),
+        (Call::Data(data(1, 2)), Seen::Taken),
+        (Call::Acknowledge, Seen::Sent(acknowledgement(1, 1, 3))),
+        (Call::Acknowledge, Seen::Refused(17)),
+        (Call::Acknowledgement(acknowledgement(0, 1, 1)), Seen::Taken),
+        (Call::Acknowledgement(acknowledgement(0, 1, 1)), Seen::Taken),
+        (Call::Acknowledgement(acknowledgement(1, 1, 3)), Seen::Taken),
+        (Call::Acknowledgement(acknowledgement(2, 1, 2)), Seen::Taken),
+    ];
+    let server = check_calls(&rt, server, &mut desk, &received);
+    check_sheet(&rt, &server, &desk, &[]);
+    let delivered = [
+        (Call::Acknowledgement(acknowledgement(3, 1, 2)), Seen::Taken),
+        (Call::Acknowledgement(acknowledgement(3, 1, 3)), Seen::Taken),
+        (Call::Data(data(3, 1)), Seen::Taken),
+        (Call::Close, Seen::Refused(17)),
+        (Call::Data(data(3, 4)), Seen::Sent(data(1, 4))),
+        (Call::Acknowledge, Seen::Sent(acknowledgement(1, 1, 7))),
+    ];
+    let server = check_calls(&rt, server, &mut desk, &delivered);
+    check_sheet(&rt, &server, &desk, &[1, 0]);
+    assert_eq!(rt; desk.sheet[2], 7);
+    assert_eq!(rt; server.stage(), 1);
+    let row = server.retire();
+    assert_eq!(rt;
+        (row.received, row.delivered, row.pending, row.early),
+        (7, 0, 7, 3)
+    );
+    assert_eq!(rt; desk.chooser.count(1)?, 0);
+    Ok(())
+}
+
+// A draw of node 0 and payments of the nodes 1 and 3. Message 2 was acknowledged before the draw came, and two of the
+// three checks have it: it is delivered first, then 0 and 1. A check of stage 2 waits until the node is there.
+#[test]
+fn settled(rt: HostRuntime) -> Result<(), Fail> {
+    let mut desk = Desk::new([DRAW, PAY, PAY], 1)?;
+    let server = Server::new(&desk)?;
+    let closing = [
+        (Call::Data(data(3, 4)), Seen::Sent(data(1, 4))),
+        (Call::Acknowledge, Seen::Sent(acknowledgement(1, 1, 4))),
+        (Call::Data(data(0, 1)), Seen::Sent(data(1, 1))),
+        (Call::Acknowledge, Seen::Refused(17)),
+        (Call::Check(check(0, 1, 0)), Seen::Taken),
+        (Call::Close, Seen::Sent(check(1, 1, 4))),
+        (Call::Propose, Seen::Refused(18)),
+        (Call::Check(check(1, 1, 4)), Seen::Taken),
+        (Call::Check(check(1, 1, 4)), Seen::Taken),
+        (Call::Propose, Seen::Refused(18)),
+        (Call::Settle, Seen::Refused(19)),
+        (Call::Data(data(1, 2)), Seen::Taken),
+        (Call::Check(check(3, 1, 4)), Seen::Taken),
+        (Call::Check(check(2, 1, 1)), Seen::Taken),
+        (Call::Check(check(0, 2, 0)), Seen::Refused(16)),
+        (Call::Propose, Seen::Taken),
+        (Call::Propose, Seen::Refused(20)),
+    ];
+    let server = check_calls(&rt, server, &mut desk, &closing);
+    assert!(rt; desk.pair == (0, 2) || desk.pair == (2, 0));
+    assert_eq!(rt; desk.chooser.decision(1), Ok(Some((4, 3))));
+    check_sheet(&rt, &server, &desk, &[]);
+    assert_eq!(rt; server.stage(), 1);
+    let next = [
+        (Call::Settle, Seen::Taken),
+        (Call::Check(check(0, 2, 0)), Seen::Taken),
+        (Call::Acknowledgement(acknowledgement(3, 1, 4)), Seen::Taken),
+        (Call::Data(data(0, 1)), Seen::Taken),
+        (Call::Acknowledge, Seen::Refused(17)),
+    ];
+    let server = check_calls(&rt, server, &mut desk, &next);
+    check_sheet(&rt, &server, &desk, &[2, 0, 1]);
+    assert_eq!(rt; server.stage(), 2);
+    let row = server.retire();
+    assert_eq!(rt;
+        (row.received, row.delivered, row.pending, row.early),
+        (7, 7, 0, 0)
+    );
+    assert_eq!(rt; (row.checked, row.phase), (1, Phase::Gathering));
+    Ok(())
+}
+
+// The chooser wants two proposals, and decides by the lower node's. What was delivered early is not written again.
+#[test]
+fn undecided(rt: HostRuntime) -> Result<(), Fail> {
+    let mut desk = Desk::new([DRAW, PAY, PAY], 2)?;
+    let server = Server::new(&desk)?;
+    let proposed = [
+        (Call::Data(data(3, 4)), Seen::Sent(data(1, 4))),
+        (Call::Acknowledge, Seen::Sent(acknowledgement(1, 1, 4))),
+        (Call::Acknowledgement(acknowledgement(0, 1, 4)), Seen::Taken),
+        (Call::Acknowledgement(acknowledgement(1, 1, 4)), Seen::Taken),
+        (Call::Acknowledgement(acknowledgement(3, 1, 4)), Seen::Taken),
+        (Call::Data(data(0, 1)), Seen::Sent(data(1, 1))),
+        (Call::Close, Seen::Sent(check(1, 1, 4))),
+        (Call::Check(check(0, 1, 4)), Seen::Taken),
+        (Call::Check(check(1, 1, 4)), Seen::Taken),
+        (Call::Check(check(3, 1, 4)), Seen::Taken),
+        (Call::Propose, Seen::Taken),
+        (Call::Settle, Seen::Refused(19)),
+    ];
+    let server = check_calls(&rt, server, &mut desk, &proposed);
+    check_sheet(&rt, &server, &desk, &[2]);
+    assert_eq!(rt; desk.chooser.propose(1, 0, (4, 3)), Ok(()));
+    let server = check_calls(&rt, server, &mut desk, &[(Call::Settle, Seen::Taken)]);
+    check_sheet(&rt, &server, &desk, &[2, 0, 1]);
+    let next = [
+        (Call::Data(data(1, 2)), Seen::Taken),
+        (Call::Acknowledge, Seen::Refused(17)),
+    ];
+    let server = check_calls(&rt, server, &mut desk, &next);
+    let row = server.retire();
+    assert_eq!(rt; (row.stage, row.received, row.delivered), (2, 7, 7));
+    Ok(())
+}
