@@ -104,7 +104,8 @@ fn gather(mut node: Gathering, desk: &mut Desk, call: Call) -> (Server, u8) {
     (Server::Gathers(node), number_of(answer))
 }
 
-// A call of a closing node. Acknowledgements are thrown away.
+// A call of a closing node. It has no call for acknowledgements: one of a later stage has to wait, as any letter of a
+// later stage does; the others would come to nothing, and are thrown away.
 fn decide(mut node: Closing, desk: &mut Desk, call: Call) -> (Server, u8) {
     let mut tables = lend(
         desk.sizes,
@@ -123,6 +124,7 @@ fn decide(mut node: Closing, desk: &mut Desk, call: Call) -> (Server, u8) {
                 Err(Refused { node, refusal }) => (Server::Closes(node), refusal.number()),
             };
         }
+        Call::Acknowledgement(letter) if letter.stage > node.stage() => Err(Refusal::LaterStage),
         Call::Acknowledgement(_) | Call::Acknowledge | Call::Close => Ok(()),
     };
     (Server::Closes(node), number_of(answer))

@@ -46,7 +46,7 @@ fn early(rt: HostRuntime) -> Result<(), Fail> {
 }
 
 // A draw of node 0 and payments of the nodes 1 and 3. Message 2 was acknowledged before the draw came, and two of the
-// three checks have it: it is delivered first, then 0 and 1. A check of stage 2 waits until the node is there.
+// three checks have it: it is delivered first, then 0 and 1. Letters of stage 2 wait until the node is there.
 #[test]
 fn settled(rt: HostRuntime) -> Result<(), Fail> {
     let mut desk = Desk::new([DRAW, PAY, PAY], 1)?;
@@ -67,6 +67,11 @@ fn settled(rt: HostRuntime) -> Result<(), Fail> {
         (Call::Check(check(3, 1, 4)), Seen::Taken),
         (Call::Check(check(2, 1, 1)), Seen::Taken),
         (Call::Check(check(0, 2, 0)), Seen::Refused(16)),
+        (
+            Call::Acknowledgement(acknowledgement(0, 2, 8)),
+            Seen::Refused(16),
+        ),
+        (Call::Acknowledgement(acknowledgement(0, 1, 4)), Seen::Taken),
         (Call::Propose, Seen::Taken),
         (Call::Propose, Seen::Refused(20)),
     ];
@@ -75,9 +80,13 @@ fn settled(rt: HostRuntime) -> Result<(), Fail> {
     assert_eq!(rt; desk.chooser.decision(1), Ok(Some((4, 3))));
     check_sheet(&rt, &server, &desk, &[]);
     assert_eq!(rt; server.stage(), 1);
+    // Meanwhile node 0 is in stage 2, and has broadcast one message more.
+    desk.book[3] = PAY;
+    desk.broadcasters[3] = 0;
     let next = [
         (Call::Settle, Seen::Taken),
         (Call::Check(check(0, 2, 0)), Seen::Taken),
+        (Call::Acknowledgement(acknowledgement(0, 2, 8)), Seen::Taken),
         (Call::Acknowledgement(acknowledgement(3, 1, 4)), Seen::Taken),
         (Call::Data(data(0, 1)), Seen::Taken),
         (Call::Acknowledge, Seen::Refused(17)),
@@ -90,7 +99,8 @@ fn settled(rt: HostRuntime) -> Result<(), Fail> {
         (row.received, row.delivered, row.pending, row.early),
         (7, 7, 0, 0)
     );
-    assert_eq!(rt; (row.checked, row.phase), (1, Phase::Gathering));
+    assert_eq!(rt; (row.checked, row.heard[2], row.heard[3]), (1, 0, 1));
+    assert_eq!(rt; row.phase, Phase::Gathering);
     Ok(())
 }
 
