@@ -1,0 +1,23 @@
+use chooser::chooser::Chooser;
+use chooser::first_come::FirstCome;
+use rows::row::{Check, Phase, Row};
+use rows::size::RingSize;
+use std::test::Fail;
+
+// In a ring of four with a quorum of three, two of three checks have message 0 and one has message 1: more than half
+// have message 0 alone.
+#[test]
+fn what_most_checks_have_does_not_conflict(rt: HostRuntime) -> Result<(), Fail> {
+    let mut row = Row::new();
+    row.received = 0b11;
+    row.phase = Phase::Closing;
+    for (sender, set) in [(0, 0b01), (1, 0b01), (2, 0b10)] {
+        row.checks[usize::from(sender)] = Check { sender, set };
+    }
+    row.checked = 3;
+    let mut chooser = FirstCome::new();
+    row.propose(RingSize::new(4, 3)?, &mut chooser, 0)?;
+    assert_eq!(rt; chooser.decision(1)?, Some((0b01, 0b10)));
+    assert_eq!(rt; row.phase, Phase::Waiting);
+    Ok(())
+}
