@@ -2,10 +2,10 @@ use crate::helpers::check_reports;
 use report::report::report_of;
 use std::test::Fail;
 
-// Days by a ring of one node, with First-come.
+// Days by a ring of one node.
 #[test]
 fn one_node(rt: HostRuntime) -> Result<(), Fail> {
-    let cases: [(&[u8], &str); 9] = [
+    let cases: [(&[u8], &str); 4] = [
         // no entry
         (&[1, 1, 1, 1], "node 0 stage 1 live\naccepted 0 refused 0\n"),
         // a payment is acknowledged and delivered; the last step finds nothing new
@@ -23,6 +23,19 @@ fn one_node(rt: HostRuntime) -> Result<(), Fail> {
             ],
             "node 0 stage 2 live 0 1\naccepted 8 refused 1\n",
         ),
+        // a fault after a refused step
+        (
+            &[1, 1, 2, 2, 3, 0, 3, 0x80],
+            "node 0 stage 1 live\naccepted 0 refused 1\nfault 41 at 7\n",
+        ),
+    ];
+    check_reports(&rt, rt.alloc(), &cases)
+}
+
+// Days by a ring of one node, by what its record finds lawful.
+#[test]
+fn kinds_of_record(rt: HostRuntime) -> Result<(), Fail> {
+    let cases: [(&[u8], &str); 3] = [
         // a round is lawful for Rounds
         (
             &[
@@ -44,21 +57,6 @@ fn one_node(rt: HostRuntime) -> Result<(), Fail> {
                 0x80, 0x02, 2, 0, 2, 1, 3, 0, 2, 2,
             ],
             "node 0 stage 1 live 0 1\naccepted 6 refused 0\n",
-        ),
-        // a node spelled longer than need be
-        (
-            &[1, 1, 1, 1, 3, 0x80, 0],
-            "node 0 stage 1 live\naccepted 0 refused 0\nfault 42 at 5\n",
-        ),
-        // a body of six bytes, of which two are there
-        (
-            &[1, 1, 1, 1, 1, 0, 6, 1, 0],
-            "node 0 stage 1 live\naccepted 0 refused 0\nfault 44 at 7\n",
-        ),
-        // a fault after a refused step
-        (
-            &[1, 1, 2, 2, 3, 0, 3, 0x80],
-            "node 0 stage 1 live\naccepted 0 refused 1\nfault 41 at 7\n",
         ),
     ];
     check_reports(&rt, rt.alloc(), &cases)

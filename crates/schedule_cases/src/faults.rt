@@ -99,9 +99,9 @@ fn bodies_are_too_long(rt: HostRuntime) -> Result<(), Fail> {
     )
 }
 
-// 41 and 42 in a body: its end cuts a number, whatever follows it in the input.
+// 41 in a body: its end cuts a number, whatever follows it in the input.
 #[test]
-fn numbers_of_commands_are_faulty(rt: HostRuntime) -> Result<(), Fail> {
+fn numbers_of_commands_are_cut_short(rt: HostRuntime) -> Result<(), Fail> {
     check_faults(
         &rt,
         &[
@@ -116,6 +116,16 @@ fn numbers_of_commands_are_faulty(rt: HostRuntime) -> Result<(), Fail> {
                 8,
                 &COMMAND_NUMBER,
             ),
+        ],
+    )
+}
+
+// 42 in a body: a number ends there, and is longer than need be or above its limit.
+#[test]
+fn numbers_of_commands_are_unfit(rt: HostRuntime) -> Result<(), Fail> {
+    check_faults(
+        &rt,
+        &[
             (
                 &[3, 0, 1, 0, 5, 0x80, 0x02, 0, 0, 0],
                 42,
