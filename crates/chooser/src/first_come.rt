@@ -34,6 +34,7 @@ impl Rule for First {
 }
 
 impl Ruled<First> {
+    // A chooser without proposals.
     pub fn new() -> Self
         ensures { Fresh 1 (first_come result.log) }
     {

@@ -60,7 +60,7 @@ impl Rule for Lowest {
 }
 
 impl Ruled<Lowest> {
-    // A chooser with this need, 1 to 7.
+    // A chooser with this need and without proposals. Refused: 34 the need is 0 or above 7.
     pub fn new(need: u8) -> Result<Self, Refusal>
         ensures { Makes (λ x. lowest_of x.rule.need x.log) need result }
     {

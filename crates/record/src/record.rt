@@ -24,7 +24,7 @@ pub trait Record: Sized {
     fn in_conflict(a: Command, b: Command) -> bool
         ensures { result ≡ kind.conflicts a b };
 
-    // Takes a lawful command; refuses an unlawful one and stays as it is.
+    // Takes a lawful command; refuses an unlawful one with 10, and stays as it is.
     fn take(&mut self, command: Command) -> Result<(), Unlawful>
         ensures { Taken kind.taking command result (told self.old) (told self.new) };
 

@@ -51,8 +51,9 @@ impl Ring {
     }
 
     // Receives the letter at a place: its receiver takes it, and relays a message that is new to it and that it did not
-    // broadcast. Refused: 4; 7; 13; 14; 15; 9 the receiver has crashed; 16 the letter's stage is later than the
-    // receiver's; 12 it must relay and there are fewer free places than nodes.
+    // broadcast. Refused: 4 a table has the wrong size; 7 never started; 13 the place is not yet used or beyond the
+    // tray; 14 the letter does not travel; 15 it is spoilt; 9 the receiver has crashed; 16 the letter's stage is later
+    // than the receiver's; 12 it must relay and there are fewer free places than nodes.
     pub fn receive(&mut self, tables: &mut TablesMut<'_>, place: usize) -> Result<(), Refusal>
         ensures lent { StillLent tables.old tables.new }
         ensures receives { Receives

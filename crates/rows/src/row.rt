@@ -75,7 +75,7 @@ impl Row {
         without(self.received, self.delivered)
     }
 
-    // Notes that all these messages were acknowledged.
+    // Notes that all its undelivered messages were acknowledged.
     pub fn acknowledge(&mut self)
         ensures { self.new ≡ with_pending (undelivered self.old) self.old }
     {

@@ -35,7 +35,8 @@ fn put(front: &mut [u8], value: u16) -> usize
     }
 }
 
-// Writes an entry at the front of the buffer, and answers its length; a refusal leaves the buffer as it was.
+// Writes an entry at the front of the buffer, and answers its length. Refused, and the buffer then stays as it was: 42 a
+// number is above its limit; 46 the buffer is shorter than the entry.
 pub fn write(draft: Draft, buffer: &mut [u8]) -> Result<usize, WriteRefusal>
     ensures value { result ≡ outcome draft (length buffer.old) }
     ensures wrote { IfOk result (λ n. buffer.new ≡ spelling draft ++ drop n buffer.old) }

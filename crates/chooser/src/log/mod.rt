@@ -4,6 +4,7 @@ pub mod stage;
 
 use stage::Stage;
 
+// One stage for each of 1 to 32, in order.
 #[derive(Drop)]
 pub struct Log {
     stages: [Stage; 32],

@@ -11,7 +11,7 @@ ghost use Rattle.std.specs.Prelude.{◌≡◌, length};
 
 use card::Card;
 
-// One card for each player.
+// Rounds: the golf rounds that are kept of eight players, one card for each.
 #[derive(Drop)]
 pub struct Rounds {
     cards: [Card; 8],
