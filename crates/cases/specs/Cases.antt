@@ -61,9 +61,9 @@ faulted_with number (Ok t) = false
 faulted_with number (Err f) = number_of_number f == number
 
 -- the list that is told after these commands
-abbrev pub told_after : Kind → List ℕ → List Command → List ℕ
-told_after K l [] = l
-told_after K l (c ∷ cs) = told_after K (K.taking.after l c) cs
+abbrev pub list_after : Kind → List ℕ → List Command → List ℕ
+list_after K l [] = l
+list_after K l (c ∷ cs) = list_after K (K.taking.after l c) cs
 
 -- whether a case comes out as it says
 abbrev pub holds : Case → Bool
@@ -74,4 +74,4 @@ holds (proposes q checks undelivered nonconflicting conflicting) =
     && (proposed_sets q (row_with checks undelivered)).1 == set_of conflicting
 holds (goes_in v bytes) = same (spell v) bytes && was_read v (length bytes) (number_at 65535 bytes 0)
 holds (is_fault bytes number) = faulted_with number (number_at 65535 bytes 0)
-holds (leaves K commands told) = list_all K.taking.lawful commands && same (told_after K K.taking.first commands) told
+holds (leaves K commands told) = list_all K.taking.lawful commands && same (list_after K K.taking.first commands) told
