@@ -29,6 +29,7 @@ told_fifties n = concat (replicate n (100 ∷ 10050 ∷ []))
 abbrev pub others : List ℕ
 others = replicate 287 0
 
+-- each case, and what it comes to
 abbrev pub worked_cases : List Case
 worked_cases =
     is_size 4 3

@@ -15,6 +15,7 @@ pub record Meaning : Type 0 where
 abbrev pub served : ℕ → Bool
 served s = nat_le 1 s && nat_le s 32
 
+-- the pair of sets that is proposed
 abbrev pub sets_of : Proposal → ℕ × ℕ
 sets_of p = (p.nonconflicting, p.conflicting)
 
@@ -31,6 +32,7 @@ pub record Sound (M : Meaning) : Type 0 where
   pub stands : (s : ℕ) → M.need ≤ length (M.proposals s) →
       (k : ℕ) × (k < M.need) × (M.decision s ≡ Some (sets_of (slice_index_or (M.proposals s) k no_proposal)))
 
+-- whether node n has one of these proposals
 abbrev pub has_proposed : ℕ → List Proposal → Bool
 has_proposed n [] = false
 has_proposed n (p ∷ ps) = p.node == n || has_proposed n ps
@@ -40,6 +42,7 @@ abbrev pub proposal_refusal : List Proposal → ℕ → ℕ → Option Refusal
 proposal_refusal ps s n =
     cond (served s) (cond (nat_lt 6 n) (Some NoSuchNode) (cond (has_proposed n ps) (Some ProposedBefore) None)) (Some NoSuchStage)
 
+-- the proposal of a node
 abbrev pub proposal_of : ℕ → ℕ × ℕ → Proposal
 proposal_of n sets = record { node = n; nonconflicting = sets.0; conflicting = sets.1 }
 

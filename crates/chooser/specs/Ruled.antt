@@ -11,6 +11,7 @@ abbrev pub decided : ℕ → (ℕ → List Proposal → ℕ) → ℕ → List Pr
 decided need rule s ps =
     cond (nat_le need (length ps)) (Some (sets_of (slice_index_or ps (rule s (take need ps)) no_proposal))) None
 
+-- the meaning of a chooser by a rule: its log, decided stage by stage
 abbrev pub ruled : ℕ → (ℕ → List Proposal → ℕ) → (ℕ → List Proposal) → Meaning
 ruled need rule log = record { need = need; proposals = log; decision = λ s. decided need rule s (log s) }
 
@@ -19,6 +20,7 @@ pub record Fresh (need : ℕ) (M : Meaning) : Type 0 where
   pub needs : M.need ≡ need
   pub empty : (s : ℕ) → M.proposals s ≡ []
 
+-- a need is 1 to 7
 abbrev pub need_refusal : ℕ → Option Refusal
 need_refusal need = cond (need == 0 || nat_lt 7 need) (Some NeedOutOfRange) None
 

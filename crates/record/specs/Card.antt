@@ -26,6 +26,7 @@ abbrev pub adjusted : ℤ → List Round → List Round
 adjusted d [] = []
 adjusted d (x ∷ xs) = record { day = x.day; amount = clamped (x.amount +ℤ d) } ∷ adjusted d xs
 
+-- whether a is one of low to high
 abbrev pub between : ℤ → ℤ → ℤ → Bool
 between low high a = int_le low a && int_le a high
 
@@ -33,10 +34,12 @@ between low high a = int_le low a && int_le a high
 abbrev pub in_range : Round → Bool
 in_range x = between (negsuc 9998) (pos 9999) x.amount
 
+-- each round may count what it does
 abbrev pub all_in_range : List Round → Bool
 all_in_range [] = true
 all_in_range (x ∷ xs) = in_range x && all_in_range xs
 
+-- the round is ahead of the first of the others, if there is one
 abbrev pub leads : Round → List Round → Bool
 leads x [] = true
 leads x (y ∷ ys) = ahead x y
@@ -50,6 +53,7 @@ in_order (x ∷ xs) = leads x xs && in_order xs
 abbrev pub is_card : List Round → Bool
 is_card xs = nat_le (length xs) 20 && (in_order xs && all_in_range xs)
 
+-- the cards of several players
 abbrev pub are_cards : List (List Round) → Bool
 are_cards [] = true
 are_cards (t ∷ ts) = is_card t && are_cards ts

@@ -33,6 +33,7 @@ closing_after K [] c = []
 closing_after K (s ∷ l) c =
     cond (turns c) (cond (closes c) 1 0 ∷ l) (cond (s == 0) (s ∷ K.taking.after l c) (s ∷ l))
 
+-- 0 or 1, then a list that the record below can tell
 abbrev pub closing_tells : Kind → List ℕ → Bool
 closing_tells K [] = false
 closing_tells K (s ∷ l) = nat_le s 1 && K.taking.tells l

@@ -15,6 +15,7 @@ draws c = c.verb == 2
 abbrev pub of_kitty : Command → Bool
 of_kitty c = c.subject == 0 && (c.day == 0 && (int_le (pos 1) c.amount && int_le c.amount (pos 30000)))
 
+-- no other verb is lawful
 abbrev pub kitty_lawful : Command → Bool
 kitty_lawful c = (pays c || draws c) && of_kitty c
 
@@ -28,6 +29,7 @@ abbrev pub balance_after : ℕ → Command → ℕ
 balance_after b c =
     cond (pays c) (min (b + whole c.amount) 4294967295) (cond (nat_le (whole c.amount) b) (b - whole c.amount) b)
 
+-- the told list is the balance alone
 abbrev pub kitty_after : List ℕ → Command → List ℕ
 kitty_after [] c = []
 kitty_after (b ∷ l) c = balance_after b c ∷ l

@@ -22,18 +22,21 @@ sides_conflict L R c d =
     (cond (is_left d) (L.conflicts (at_side c) (at_side d)) false)
     (cond (is_left d) false (R.conflicts (at_side c) (at_side d)))
 
+-- the two parts of a told list
 abbrev pub left_part : Kind → List ℕ → List ℕ
 left_part L l = take L.taking.size l
 
 abbrev pub right_part : Kind → List ℕ → List ℕ
 right_part L l = drop L.taking.size l
 
+-- the side of the command takes it, and the other part stays
 abbrev pub pair_after : Kind → Kind → List ℕ → Command → List ℕ
 pair_after L R l c =
     cond (is_left c)
     (L.taking.after (left_part L l) (at_side c) ++ right_part L l)
     (left_part L l ++ R.taking.after (right_part L l) (at_side c))
 
+-- each part is one that its side can tell
 abbrev pub pair_tells : Kind → Kind → List ℕ → Bool
 pair_tells L R l = L.taking.tells (left_part L l) && R.taking.tells (right_part L l)
 
@@ -46,6 +49,7 @@ pair_taking L R = record {
   after = pair_after L R;
 }
 
+-- an unlawful command conflicts with all; lawful ones conflict by their sides
 abbrev pub pair_conflicts : Kind → Kind → Command → Command → Bool
 pair_conflicts L R c d = not (pair_lawful L R c && pair_lawful L R d) || sides_conflict L R c d
 

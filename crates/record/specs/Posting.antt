@@ -3,6 +3,7 @@ use Rattle.std.specs.Prelude.{◌≡◌, ℕ, ◌+◌, Bool, true, cond, ◌&&�
 use Rattle.record.specs.Card.{placed, in_order}
 use Rattle.record.specs.declared.rounds.card.Round.{Round}
 
+-- rounds of one day and amount
 abbrev pub same_round : Round → Round → Bool
 same_round x y = x.day == y.day && (int_le x.amount y.amount && int_le y.amount x.amount)
 

@@ -23,9 +23,11 @@ rounds_lawful c = nat_lt c.subject 8 && (posts c || adjusts c)
 abbrev pub players_conflict : Command → Command → Bool
 players_conflict c d = c.subject == d.subject && (c.verb == 2 || d.verb == 2)
 
+-- an unlawful command conflicts with all
 abbrev pub rounds_conflicts : Command → Command → Bool
 rounds_conflicts c d = not (rounds_lawful c && rounds_lawful d) || players_conflict c d
 
+-- the round that a command posts
 abbrev pub round_of : Command → Round
 round_of c = record { day = c.day; amount = c.amount }
 
@@ -33,6 +35,7 @@ round_of c = record { day = c.day; amount = c.amount }
 abbrev pub card_after : Command → List Round → List Round
 card_after c xs = cond (c.verb == 1) (posted (round_of c) xs) (adjusted c.amount xs)
 
+-- and of all players' rounds
 abbrev pub cards_after : List (List Round) → Command → List (List Round)
 cards_after ts c = slice_set ts c.subject (card_after c (slice_index_or ts c.subject []))
 
@@ -41,9 +44,11 @@ abbrev pub raised : ℤ → ℕ
 raised (pos n) = n + 10000
 raised (negsuc n) = 9999 - n
 
+-- and read back
 abbrev pub lowered : ℕ → ℤ
 lowered n = pos n -ℤ pos 10000
 
+-- two numbers for each round
 abbrev pub pairs : List Round → List ℕ
 pairs [] = []
 pairs (r ∷ rs) = r.day ∷ (raised r.amount ∷ pairs rs)
@@ -52,6 +57,7 @@ pairs (r ∷ rs) = r.day ∷ (raised r.amount ∷ pairs rs)
 abbrev pub encode_card : List Round → List ℕ
 encode_card rs = length rs ∷ (pairs rs ++ replicate (40 - 2 * length rs) 0)
 
+-- one player after the other
 abbrev pub encode_cards : List (List Round) → List ℕ
 encode_cards [] = []
 encode_cards (t ∷ ts) = encode_card t ++ encode_cards ts

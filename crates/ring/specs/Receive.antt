@@ -56,6 +56,7 @@ received_letter w place l = record {
       w.sheets;
 }
 
+-- the same of the letter that stands at the place
 abbrev pub received : World → ℕ → World
 received w place = received_letter w place (letter_at w place)
 

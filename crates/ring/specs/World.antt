@@ -104,6 +104,7 @@ with_used used r = record {
 abbrev pub wrong_sizes : ℕ → ℕ → ℕ → Bool
 wrong_sizes tray book sheets = (tray == 0 || nat_lt 4096 tray) || (not (book == 64) || not (sheets == 448))
 
+-- a table has the wrong size
 abbrev pub table_refusal : World → Option Refusal
 table_refusal w = refuse (wrong_sizes (length w.tray) (length w.book) (length w.sheets)) WrongTableSize None
 

@@ -54,6 +54,7 @@ newly q l row = minus (reached (heard_also l row) q) (on_sheet row)
 abbrev pub after_hearing : ℕ → Letter → Row → Row
 after_hearing q l row = with_heard (heard_also l row) (bit_or row.early (newly q l row)) row
 
+-- whether the node gathers
 abbrev pub is_gathering : Phase → Bool
 is_gathering Gathering = true
 is_gathering Closing = false
@@ -81,6 +82,7 @@ from_sender checks s (suc k) = from_sender checks s k || (slice_index_or checks 
 abbrev pub is_kept : ℕ → Letter → Row → Bool
 is_kept q l row = nat_lt row.checked q && not (from_sender row.checks l.sender row.checked)
 
+-- the row after a check
 abbrev pub after_check : ℕ → Letter → Row → Row
 after_check q l row = cond (is_kept q l row) (with_check (record { sender = l.sender; set = l.set }) row) row
 

@@ -28,6 +28,7 @@ abbrev pub text_by_choice : Option RecordKind → List (List ℕ) → List ℕ
 text_by_choice None lines = codes "line 1: no kind of record\n"
 text_by_choice (Some choice) lines = played_text choice lines
 
+-- the first line names the kind of record, the others are commands
 abbrev pub text_of_lines : List (List ℕ) → List ℕ
 text_of_lines [] = text_by_choice None []
 text_of_lines (line ∷ lines) = text_by_choice (choice_of line) lines
