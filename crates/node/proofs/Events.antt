@@ -10,7 +10,7 @@ use Rattle.rows.specs.declared.row.Phase.TheVariants.{Gathering, Closing, Waitin
 use Rattle.ring.specs.declared.step.Step.{Step}
 use Rattle.ring.specs.declared.step.Step.TheVariants.{Acknowledged, Closed, Proposed, Settled}
 use Rattle.node.specs.Tables.{Lent}
-use Rattle.node.specs.Events.{Event, told, took, turned, ready, is_thrown_away, HandedOver, GathersAlone, ProposesAlone, SettlesAlone}
+use Rattle.node.specs.Events.{Event, told, took, turned, ready, has_no_call, HandedOver, GathersAlone, ProposesAlone, SettlesAlone}
 use Rattle.node.specs.Events.{Turns, Does, Alone}
 use Rattle.node.specs.declared.member.Member.{Member}
 
@@ -71,7 +71,7 @@ does_once : (K : Kind) (e : Event) (m : Member) (t : Lent) (k k' : Member) (u u'
     → Same k u k' u'
 does_once K (told i node c) m t k k' u u' h g = (h.0 ∙ sym g.0, h.1 ∙ sym g.1)
 does_once K (took l r sent) m t k k' u u' h g =
-    handed_once (ready m.size.n t) m u u' k k' (is_thrown_away m l) l r h.0 g.0
+    handed_once (ready m.size.n t) m u u' k k' (has_no_call m l) l r h.0 g.0
 does_once K (turned M r N sent) m t k k' u u' h g =
     turns_once (ready m.size.n t) m u u' k k' M N K.conflicts m.row.phase r h.0 g.0
 

@@ -24,14 +24,14 @@ use Rattle.ring.proofs.Seeing.{Joined}
 use Rattle.node.specs.Tables.{Lent, lent}
 use Rattle.node.specs.Takes.{take_refusal, relayed, taken_lent, unfit, Takes}
 use Rattle.node.specs.Takes.{taken as taken_by}
-use Rattle.node.specs.Events.{outgoing, is_thrown_away, HandedOver}
+use Rattle.node.specs.Events.{outgoing, has_no_call, HandedOver}
 use Rattle.node.specs.Alike.{Names, posted, member_in, sheet_part}
 use Rattle.node.specs.declared.member.Member.{Member}
 use Rattle.node.proofs.LettersSent.{none_travels, sent_in_tray, nothing_behind, sent_alone}
 use Rattle.node.proofs.LettersTaken.{tables, tables_fit, fits, relays_alike}
 use Rattle.node.proofs.SheetPart.{part, taken_here}
 
--- an acknowledgement leaves a closing node's row and sheet, which it is thrown away for
+-- an acknowledgement leaves a closing node's row and sheet, so that none has to be handed over to it
 module _ (n q : ℕ) (l : Letter) (row : Row) (closing : is_gathering row.phase ≡ false) (kind : l.kind ≡ acknowledgement) where
   not_data : eqb l.kind data_letter ≡ false
   not_data = ne_eqb _ _ (λ e. omega (arith, e, kind))
@@ -119,8 +119,8 @@ module _ {K : Kind} {z : RingSize} {need : ℕ} {low : 1 ≤ need} {high : need 
     node_is ∙ sym (ap (λ (o : Option Refusal). unless o (taken_by m l) m) allowed),
   )
 
-  pub handed : HandedOver (is_thrown_away m l) t m l (Ok tt) u k
-  handed = elim (cases_Bool (is_thrown_away m l)) [
+  pub handed : HandedOver (has_no_call m l) t m l (Ok tt) u k
+  handed = elim (cases_Bool (has_no_call m l)) [
     | inl e ↦ subst (λ (b : Bool). HandedOver b t m l (Ok tt) u k) (sym e) (
         let parts = and_parts _ _ e in
         let closing = not-true _ parts.0 in

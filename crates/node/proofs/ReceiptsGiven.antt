@@ -26,7 +26,7 @@ use Rattle.ring.proofs.Seeing.{Joined}
 use Rattle.node.specs.Tables.{Lent}
 use Rattle.node.specs.Takes.{take_refusal, relayed, taken_lent, unfit, Takes}
 use Rattle.node.specs.Takes.{taken as taken_by}
-use Rattle.node.specs.Events.{Event, took, is_thrown_away, HandedOver}
+use Rattle.node.specs.Events.{Event, took, has_no_call, HandedOver}
 use Rattle.node.specs.Alike.{is_its_own, posted, given, member_in, GoesAlike}
 use Rattle.node.specs.declared.member.Member.{Member}
 use Rattle.node.proofs.LettersSent.{none_travels, nothing_behind}
@@ -149,7 +149,7 @@ module _ {K : Kind} {z : RingSize} {need : ℕ} {low : 1 ≤ need} {high : need 
             sym (ap (λ (c : Option Refusal). unless c (taken_lent t m l) t) e),
             sym (ap (λ (c : Option Refusal). unless c (taken_by m l) m) e),
           ) in
-          let handed_back : HandedOver (is_thrown_away m l) t m l (Err x) t m = elim (cases_Bool (is_thrown_away m l)) [
+          let handed_back : HandedOver (has_no_call m l) t m l (Err x) t m = elim (cases_Bool (has_no_call m l)) [
             | inl y ↦ subst (λ (b : Bool). HandedOver b t m l (Err x) t m) (sym y) (refl, refl)
             | inr y ↦ subst (λ (b : Bool). HandedOver b t m l (Err x) t m) (sym y) refused
           ] in

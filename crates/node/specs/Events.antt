@@ -42,9 +42,9 @@ written m node c t = lent (slice_set t.book m c) (slice_set t.broadcasters m nod
 
 -- ---- a letter: the call for its kind
 
--- a closing node has no call for an acknowledgement, and its host throws it away
-abbrev pub is_thrown_away : Member → Letter → Bool
-is_thrown_away m l = not (is_gathering m.row.phase) && l.kind == acknowledgement
+-- a closing node has no call for an acknowledgement; its host holds it back if it is of a later stage, and else throws it away
+abbrev pub has_no_call : Member → Letter → Bool
+has_no_call m l = not (is_gathering m.row.phase) && l.kind == acknowledgement
 
 abbrev pub HandedOver : Bool → Lent → Member → Letter → Result (Unit {0}) Refusal → Lent → Member → Type 0
 HandedOver true t m l r u k = (u ≡ t) × (k ≡ m)
@@ -87,7 +87,7 @@ Turns conflicts Waiting t m M r u k N = SettlesAlone t m M r u k N
 -- what one event makes of a node and its tables
 abbrev pub Does : Kind → Event → Member → Lent → Member → Lent → Type 0
 Does K (told i node c) m t k u = (k ≡ m) × (u ≡ written i node c t)
-Does K (took l r sent) m t k u = HandedOver (is_thrown_away m l) (ready m.size.n t) m l r u k × (sent ≡ outgoing u)
+Does K (took l r sent) m t k u = HandedOver (has_no_call m l) (ready m.size.n t) m l r u k × (sent ≡ outgoing u)
 Does K (turned M r N sent) m t k u = Turns K.conflicts m.row.phase (ready m.size.n t) m M r u k N × (sent ≡ outgoing u)
 
 -- and a list of them, in turn

@@ -14,7 +14,8 @@ use rows::letter::{Letter, LetterKind};
 use rows::refusal::Refusal;
 use rows::row::Row;
 
-// A closing node has no call for acknowledgements: it delivers by the decision alone, and a host throws them away.
+// A closing node has no call for acknowledgements: it delivers by the decision alone. A host holds back those of a later
+// stage, and throws the others away.
 impl Closing {
     // Takes data, and relays it if it is new to the node and not its own. Refused: 4 a table has the wrong size; 14 the
     // letter does not travel; 15 it is spoilt, or not data for this node; 16 its stage is later than the node's.
