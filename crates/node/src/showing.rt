@@ -2,9 +2,8 @@ ghost use Rattle.std.specs.Prelude.{◌≡◌};
 ghost use Rattle.node.specs.States.{Shows};
 
 use crate::member::Member;
+use crate::tables::MESSAGES;
 use rows::refusal::Refusal;
-
-const MESSAGES: usize = 64;
 
 impl Member {
     // The numbers of the messages that the node delivered, in order: that part of the sheet itself. Refused: 4 the sheet

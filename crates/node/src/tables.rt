@@ -6,7 +6,8 @@ use rows::letter::Letter;
 use rows::refusal::Refusal;
 use rows::size::RingSize;
 
-const MESSAGES: usize = 64;
+// How many messages a ring has room for.
+pub(crate) const MESSAGES: usize = 64;
 
 // The tables that a host lends to a call of a node: the book of the commands of all messages; for each message the node
 // that broadcast it, 255 where none has; the letters that a sending writes over, one for each node; and the node's sheet.
