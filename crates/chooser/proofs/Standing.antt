@@ -1,6 +1,6 @@
 -- Whatever is proposed later, the need and the decisions stay.
 use Rattle.std.proofs.Common.{arith, ◌≡◌, ℕ, get_or, Some, Result, refl, ◌∙◌}
-use Rattle.chooser.specs.Laws.{at_once, and_then, DecisionsStay, EnoughDecides, NeedStays}
+use Rattle.chooser.specs.Laws.{at_once, and_then, DecisionsStay, EnoughDecides, NeedStays, PairsAsGiven}
 use Rattle.chooser.specs.Meaning.{Meaning, Proposes, sets_of, no_proposal}
 use Rattle.chooser.specs.declared.refusal.Refusal.{Refusal}
 
@@ -27,5 +27,8 @@ enough_decides M N x l s h =
     let d = sets_of (get_or (M.proposals s) k.0 no_proposal) in
     (d, k.2, decisions_stay M N l s d k.2)
 
+pub pairs_as_given : PairsAsGiven
+pairs_as_given n sets = refl
+
 -- what the law of standing decisions says
-pub ruleset standing = (need_stays, decisions_stay, enough_decides)
+pub ruleset standing = (need_stays, decisions_stay, enough_decides, pairs_as_given)

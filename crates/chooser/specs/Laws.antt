@@ -1,6 +1,6 @@
 -- What holds of every chooser, whatever is proposed to it.
 use Rattle.std.specs.Prelude.{◌≡◌, ℕ, ◌≤◌, length, Some, Result}
-use Rattle.chooser.specs.Meaning.{Meaning, Sound, Proposes}
+use Rattle.chooser.specs.Meaning.{Meaning, Sound, Proposes, sets_of, proposal_of}
 use Rattle.chooser.specs.declared.refusal.Refusal.{Refusal}
 
 -- A chooser's meaning after any list of proposals, refused ones included.
@@ -21,3 +21,7 @@ EnoughDecides = (M N : Meaning) → Sound M → Later M N → (s : ℕ) → M.ne
 -- The need never changes.
 abbrev pub NeedStays : Type 0
 NeedStays = (M N : Meaning) → Later M N → N.need ≡ M.need
+
+-- The pair of a proposal, by which a stage is decided, is the pair that the node gave.
+abbrev pub PairsAsGiven : Type 0
+PairsAsGiven = (n : ℕ) (sets : ℕ × ℕ) → sets_of (proposal_of n sets) ≡ sets

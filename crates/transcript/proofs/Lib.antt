@@ -6,3 +6,4 @@ pub mod Digits
 pub mod Played
 pub mod RoundsText
 pub mod Parts
+pub mod RoundsKept

@@ -6,4 +6,5 @@ pub mod Numbers
 pub mod CommandLine
 pub mod Playing
 pub mod Telling
+pub mod RoundsKept
 pub mod Transcript

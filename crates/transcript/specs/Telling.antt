@@ -51,10 +51,14 @@ abbrev pub player_text : List ℕ → ℕ → List ℕ
 player_text told player = cond (rounds_count told == 0) []
     (codes "player " ++ (decimal player ++ (codes ": " ++ (rounds_until told (rounds_count told) ++ codes "\n"))))
 
--- the lines of the players before this one, of each of whom 41 numbers are told
+-- what a list tells of a player and those after, of each of whom it tells 41 numbers
+abbrev pub player_part : List ℕ → ℕ → List ℕ
+player_part list player = drop (41 * player) list
+
+-- the lines of the players before this one
 unfoldable pub players_until : List ℕ → ℕ → List ℕ
 players_until list zero = []
-players_until list (suc player) = players_until list player ++ player_text (drop (41 * player) list) player
+players_until list (suc player) = players_until list player ++ player_text (player_part list player) player
 
 -- a text, or where it is empty another one
 abbrev pub or_else : List ℕ → List ℕ → List ℕ

@@ -4,6 +4,7 @@
 mod answer;
 mod book_state;
 mod command_line;
+pub mod laws;
 mod lines;
 mod numbers;
 mod play;
