@@ -7,3 +7,4 @@ pub mod Played
 pub mod RoundsText
 pub mod Parts
 pub mod RoundsKept
+pub mod AnswersTaken

@@ -1,7 +1,7 @@
 -- What is answered to lines of commands, and what they make of a record.
-use Rattle.std.specs.Prelude.{ℕ, ◌+◌, cond, List, [], ◌∷◌, ◌++◌, Some, None, Ok, Err, codes, decimal, Option, Result}
+use Rattle.std.specs.Prelude.{◌≡◌, ℕ, ◌+◌, cond, List, [], ◌∷◌, ◌++◌, Some, None, Ok, Err, codes, decimal, Option, Result}
 use Rattle.record.specs.Command.{number_of}
-use Rattle.record.specs.Kind.{Taking}
+use Rattle.record.specs.Kind.{Taking, Taken}
 use Rattle.record.specs.declared.command.Command.{Command}
 use Rattle.record.specs.declared.command.Unlawful.{Unlawful}
 use Rattle.transcript.specs.CommandLine.{command_of}
@@ -36,3 +36,9 @@ answers_text T number (l ∷ ls) =
 abbrev pub list_after : Taking → List ℕ → List (List ℕ) → List ℕ
 list_after T list [] = list
 list_after T list (l ∷ ls) = list_after T (told_after T list (command_of l)) ls
+
+-- A command is answered by what the record says to it, and then told is the list that the record makes: a lawful one is
+-- taken, and an unlawful one is refused and leaves the list.
+abbrev pub AnswersAsTaken : Type 0
+AnswersAsTaken = (T : Taking) (list : List ℕ) (c : Command) →
+    (r : Result (Unit {0}) Unlawful) × (answer_to T (Some c) ≡ Some r) × Taken T c r list (told_after T list (Some c))
