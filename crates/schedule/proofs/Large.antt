@@ -13,7 +13,7 @@ last_set bs n o h e = ⊎_elim
     (and_cases (ltb 1 n) (eqb (get_or bs (n - 1) 0) 0) o)
 
 -- what stands above a group
-below_of : (g : ℕ) (o : Option (ℕ × ℕ)) (t : ℕ × ℕ) → below g o ≡ Some t →
+pub below_of : (g : ℕ) (o : Option (ℕ × ℕ)) (t : ℕ × ℕ) → below g o ≡ Some t →
     (u : ℕ × ℕ) × (o ≡ Some u) × (t.0 ≡ g + 128 * u.0) × (t.1 ≡ suc u.1)
 below_of g None t e = absurd (let z : ◌≡◌ {A = ℕ} 0 1 = cc in let y : ⊥ = omega arith in y)
 below_of g (Some u) t e = (u, refl, (let z : t.0 ≡ g + 128 * u.0 = cc in z), (let z : t.1 ≡ suc u.1 = cc in z))

@@ -6,4 +6,5 @@ pub mod Judged
 pub mod Once
 pub mod Steps
 pub mod Onward
+pub mod Places
 pub mod EntryOnce

@@ -14,7 +14,7 @@ use Rattle.schedule.proofs.Judged.{number_judged, judged_ok}
 use Rattle.schedule.proofs.Steps.{through_ok, cond_is, err_ok, same_ok, kind_ok}
 
 -- a number leads on
-number_on : (limit p : ℕ) (bytes : List ℕ) (t : ℕ × ℕ) → number_at limit bytes p ≡ Ok t → p < t.1
+pub number_on : (limit p : ℕ) (bytes : List ℕ) (t : ℕ × ℕ) → number_at limit bytes p ≡ Ok t → p < t.1
 number_on limit p bytes t e =
     let bs = drop p bytes in
     let g = judged_ok limit p bs t.0 t.1 (front bs) (sym (number_judged limit bytes p) ∙ e) in

@@ -1,5 +1,5 @@
 -- The laws of the format: what is written reads back, and nothing else reads.
-use Rattle.std.specs.Prelude.{◌≡◌, ℕ, ◌+◌, ◌<◌, true, List, ◌++◌, length, drop, Ok, slice_index}
+use Rattle.std.specs.Prelude.{◌≡◌, ℕ, ◌+◌, ◌<◌, ◌≤◌, true, List, ◌++◌, length, drop, Ok, slice_index}
 use Rattle.schedule.specs.declared.draft.Draft.{Draft}
 use Rattle.schedule.specs.Entries.{Act, entry_at}
 use Rattle.schedule.specs.Drafts.{spelling, within, act_drafted, draft_of}
@@ -19,3 +19,7 @@ OneSpelling bytes p act q =
     (within (draft_of act) ≡ true)
     × (act_drafted (draft_of act) ≡ act)
     × (drop p bytes ≡ spelling (draft_of act) ++ drop q bytes)
+
+-- from one place up to another
+abbrev pub Between : ℕ → ℕ → ℕ → Type 0
+Between low high x = (low ≤ x) × (x ≤ high)

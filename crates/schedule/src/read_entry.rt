@@ -1,7 +1,8 @@
-ghost use Rattle.std.specs.Prelude.{◌≡◌, ◌<◌, IfOk, OnErr, OnOk};
+ghost use Rattle.std.specs.Prelude.{◌≡◌, ◌<◌, length, IfErr, IfOk, OnErr, OnOk};
 ghost use Rattle.schedule.specs.Entries.{act_of, body_at, broadcast_at, entry_at, part_at, read_as};
-ghost use Rattle.schedule.specs.Laws.{Bytes, OneSpelling};
+ghost use Rattle.schedule.specs.Laws.{Between, Bytes, OneSpelling};
 ghost use Rattle.schedule.specs.Readings.{Reads};
+ghost use Rattle.schedule.specs.Reports.{place_of};
 
 use crate::entry::Entry;
 use crate::fault::EntryFault;
@@ -68,6 +69,7 @@ impl<'a> Reader<'a> {
             entry_at self.old.bytes.now self.old.place }
         ensures bytes { self.new.bytes ≡ self.old.bytes }
         ensures kept { OnErr result (self.new.place ≡ self.old.place) }
+        ensures placed { IfErr result (λ f. Between self.old.place (length self.old.bytes.now) (place_of f)) }
         ensures onward { OnOk result (self.old.place < self.new.place) }
         ensures once { IfOk result (λ e. Bytes self.old.bytes.now → OneSpelling
             self.old.bytes.now self.old.place (act_of e) self.new.place) }

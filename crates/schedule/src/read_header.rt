@@ -1,7 +1,9 @@
-ghost use Rattle.std.specs.Prelude.{◌≡◌, OnErr};
+ghost use Rattle.std.specs.Prelude.{◌≡◌, length, IfErr, OnErr};
 ghost use Rattle.schedule.specs.Numbers.{left_at};
 ghost use Rattle.schedule.specs.Headers.{header_at};
 ghost use Rattle.schedule.specs.Readings.{Reads};
+ghost use Rattle.schedule.specs.Laws.{Between};
+ghost use Rattle.schedule.specs.Reports.{place_of};
 
 use crate::fault::EntryFault;
 use crate::header::Header;
@@ -27,6 +29,7 @@ impl<'a> Reader<'a> {
             header_at self.old.bytes.now self.old.place }
         ensures bytes { self.new.bytes ≡ self.old.bytes }
         ensures kept { OnErr result (self.new.place ≡ self.old.place) }
+        ensures placed { IfErr result (λ f. Between self.old.place (length self.old.bytes.now) (place_of f)) }
     {
         let mut ahead = *self;
         let header = ahead.header_ahead()?;

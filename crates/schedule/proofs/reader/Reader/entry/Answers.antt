@@ -1,8 +1,9 @@
-use Rattle.std.proofs.Common.{sym}
+use Rattle.std.proofs.Common.{sym, rules}
 use Rattle.schedule.specs.Entries.{act_of}
 use Rattle.schedule.proofs.ByteLists.{all_bytes}
 use Rattle.schedule.proofs.Onward.{entry_on}
 use Rattle.schedule.proofs.EntryOnce.{entry_once}
+use Rattle.schedule.proofs.Places.{entry_err}
 use Rattle.schedule.proofs.reader.Reader.entry.Goals as goal
 
 -- an entry leads on
@@ -18,3 +19,7 @@ returns-clause-once c f =
     let bytes = c.args.self.now.bytes.now in
     entry_once bytes c.args.self.now.place (act_of c.in_ok-entry.entry, c.entry_ahead.new.self.place)
     (all_bytes bytes f) (sym c.in_ok-entry.ensures.value)
+
+-- a fault is placed in the entry, or at its end
+pub returns-in_err-entry-clause-placed : goal.returns-in_err-entry-clause-placed
+returns-in_err-entry-clause-placed c = search (rules, entry_err)
