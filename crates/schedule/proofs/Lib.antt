@@ -8,3 +8,4 @@ pub mod Steps
 pub mod Onward
 pub mod Places
 pub mod EntryOnce
+pub mod HeaderOnce

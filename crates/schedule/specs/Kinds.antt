@@ -1,7 +1,9 @@
--- The kinds of entries and choosers, and the numbers that they go by.
+-- The kinds of entries, choosers and records, and the numbers that they go by.
 use Rattle.std.specs.Prelude.{ℕ, cond, List, Ok, Err, Result, ◌==◌}
 use Rattle.record.specs.RecordKind.{no_kind}
 use Rattle.record.specs.declared.record_kind.NoSuchKind.{NoSuchKind}
+use Rattle.record.specs.declared.record_kind.RecordKind.{RecordKind}
+use Rattle.record.specs.declared.record_kind.RecordKind.TheVariants.{Kitty, Rounds, Both}
 use Rattle.schedule.specs.declared.kind.EntryKind.{EntryKind}
 use Rattle.schedule.specs.declared.kind.EntryKind.TheVariants.{Broadcast, Receive, Step, Crash, Lose}
 use Rattle.schedule.specs.declared.header.ChooserKind.{ChooserKind}
@@ -33,6 +35,17 @@ abbrev pub chooser_kind : ℕ → Result ChooserKind NoSuchKind
 chooser_kind n =
     cond (n == 1) (Ok FirstCome)
     (cond (n == 2) (Ok LowestOf) (Err (no_kind n)))
+
+-- the number that a kind of chooser goes by
+abbrev pub number_of_chooser : ChooserKind → ℕ
+number_of_chooser FirstCome = 1
+number_of_chooser LowestOf = 2
+
+-- the number that a kind of record goes by
+abbrev pub number_of_record : RecordKind → ℕ
+number_of_record Kitty = 1
+number_of_record Rounds = 2
+number_of_record Both = 3
 
 -- a kind, if there is one, whose number stands at p, with the place q after it
 abbrev pub known : {K : Type 0} → ℕ → ℕ → Result K NoSuchKind → Result (K × ℕ) EntryFault

@@ -1,8 +1,10 @@
 -- The laws of the format: what is written reads back, and nothing else reads.
-use Rattle.std.specs.Prelude.{◌≡◌, ℕ, ◌+◌, ◌<◌, ◌≤◌, true, List, ◌++◌, length, drop, Ok, slice_index}
+use Rattle.std.specs.Prelude.{◌≡◌, ℕ, ◌+◌, ◌<◌, ◌≤◌, true, List, [], ◌∷◌, ◌++◌, length, drop, Ok, slice_index}
 use Rattle.schedule.specs.declared.draft.Draft.{Draft}
+use Rattle.schedule.specs.declared.header.Header.{Header}
 use Rattle.schedule.specs.Entries.{Act, entry_at}
-use Rattle.schedule.specs.Drafts.{spelling, within, act_drafted, draft_of}
+use Rattle.schedule.specs.Kinds.{number_of_chooser, number_of_record}
+use Rattle.schedule.specs.Drafts.{spelled, spelling, within, act_drafted, draft_of}
 
 -- numbers below 256, as every slice of bytes holds
 abbrev pub Bytes : List ℕ → Type 0
@@ -19,6 +21,14 @@ OneSpelling bytes p act q =
     (within (draft_of act) ≡ true)
     × (act_drafted (draft_of act) ≡ act)
     × (drop p bytes ≡ spelling (draft_of act) ++ drop q bytes)
+
+-- the four numbers of a header
+abbrev pub header_numbers : Header → List ℕ
+header_numbers h = h.n ∷ h.q ∷ number_of_chooser h.chooser ∷ number_of_record h.«record» ∷ []
+
+-- from p up to q stand the very bytes of the header's numbers
+abbrev pub OneHeader : List ℕ → ℕ → Header → ℕ → Type 0
+OneHeader bytes p h q = drop p bytes ≡ spelled (header_numbers h) ++ drop q bytes
 
 -- from one place up to another
 abbrev pub Between : ℕ → ℕ → ℕ → Type 0

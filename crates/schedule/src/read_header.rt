@@ -1,8 +1,8 @@
-ghost use Rattle.std.specs.Prelude.{◌≡◌, length, IfErr, OnErr};
+ghost use Rattle.std.specs.Prelude.{◌≡◌, length, IfErr, IfOk, OnErr};
 ghost use Rattle.schedule.specs.Numbers.{left_at};
 ghost use Rattle.schedule.specs.Headers.{header_at};
 ghost use Rattle.schedule.specs.Readings.{Reads};
-ghost use Rattle.schedule.specs.Laws.{Between};
+ghost use Rattle.schedule.specs.Laws.{Between, Bytes, OneHeader};
 ghost use Rattle.schedule.specs.Reports.{place_of};
 
 use crate::fault::EntryFault;
@@ -30,6 +30,8 @@ impl<'a> Reader<'a> {
         ensures bytes { self.new.bytes ≡ self.old.bytes }
         ensures kept { OnErr result (self.new.place ≡ self.old.place) }
         ensures placed { IfErr result (λ f. Between self.old.place (length self.old.bytes.now) (place_of f)) }
+        ensures once { IfOk result (λ h. Bytes self.old.bytes.now →
+            OneHeader self.old.bytes.now self.old.place h self.new.place) }
     {
         let mut ahead = *self;
         let header = ahead.header_ahead()?;
