@@ -114,8 +114,8 @@ NowhereElse K z m₀ i w es =
     (k : Member) (u : Lent) → Alone K es m₀ (blank z) k u → (k.row ≡ row_of w i) × (u.sheet ≡ sheet_part w i)
 
 -- Whatever day a ring of that size has, with whatever kind of record and chooser: as long as the node lives there, the
--- node by itself, given what that node is given on the day, answers the same to all of it, sends the same letters, and
--- comes to the same row and the same sheet.
+-- node by itself, given what that node is given on the day, answers the same to each call that it has for it, sends the
+-- same letters, and comes to the same row and the same sheet.
 abbrev pub GoesAsInARing : RingSize → ℕ → Result Gathering Refusal → Type 0
 GoesAsInARing z i (Ok g) =
     (K : Kind) → Laws K → (u v : World) (M : Meaning) → Sound M → Starts z u M (Ok tt) v →

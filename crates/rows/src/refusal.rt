@@ -35,15 +35,15 @@ pub enum Refusal {
     PlaceUnused,
     // the letter does not travel
     NotTravelling,
-    // no sending makes such a letter
+    // no sending makes such a letter; or a node by itself is not the one, or the call not the one, that it is for
     SpoiltLetter,
     // the letter's stage is later than its receiver's
     LaterStage,
-    // nothing received is left to acknowledge
+    // nothing received is left to acknowledge; or a node by itself acknowledges over a conflict, or closes without one
     NothingNew,
     // the node keeps too few checks
     TooFewChecks,
-    // the stage is undecided
+    // the stage is undecided; or a node by itself has not proposed in it
     Undecided,
     // the chooser refuses
     Chooser(ChooserRefusal),
