@@ -5,7 +5,7 @@ use std::test::Fail;
 // Days by a ring of one node.
 #[test]
 fn one_node(rt: HostRuntime) -> Result<(), Fail> {
-    let cases: [(&[u8], &str); 4] = [
+    let cases: [(&[u8], &str); 6] = [
         // no entry
         (&[1, 1, 1, 1], "node 0 stage 1 live\naccepted 0 refused 0\n"),
         // a payment is acknowledged and delivered; the last step finds nothing new
@@ -22,6 +22,16 @@ fn one_node(rt: HostRuntime) -> Result<(), Fail> {
                 2, 0, 2, 1, 3, 0, 2, 2, 3, 0, 3, 0, 3, 0,
             ],
             "node 0 stage 2 live 0 1\naccepted 8 refused 1\n",
+        ),
+        // a node spelled longer than need be
+        (
+            &[1, 1, 1, 1, 3, 0x80, 0],
+            "node 0 stage 1 live\naccepted 0 refused 0\nfault 42 at 5\n",
+        ),
+        // a body of six bytes, of which two are there
+        (
+            &[1, 1, 1, 1, 1, 0, 6, 1, 0],
+            "node 0 stage 1 live\naccepted 0 refused 0\nfault 44 at 7\n",
         ),
         // a fault after a refused step
         (
