@@ -1,11 +1,10 @@
 -- From the pairs that the search looks at to all pairs.
-use Rattle.std.proofs.Common.{◌≡◌, ℕ, ◌<◌, ◌≤◌, Bool, true, false, not, ◌&&◌, eqb, List, Some, None, Option, sym, ap, ◌∙◌}
-use Rattle.std.proofs.Common.{⊎_elim, arith}
-use Rattle.std.specs.Option.{MatchOption}
+use Rattle.std.proofs.Common.{◌≡◌, ℕ, ◌<◌, Bool, true, false, not, ◌&&◌, eqb, List, sym, ap, ◌∙◌}
+use Rattle.std.proofs.Common.{⊎_elim}
 use mathlib.Core.Bool.{and_comm}
 use Rattle.record.specs.declared.command.Command.{Command}
 use Rattle.rows.specs.Masks.{has}
-use Rattle.rows.specs.Conflicts.{command_of, clash, conflicted, clashes_with, FoundBelow}
+use Rattle.rows.specs.Conflicts.{command_of, clash, conflicted, clashes_with}
 use Rattle.rows.proofs.Anys.{any_true, any_false}
 use Rattle.std.proofs.lemmas.Bool.{and_left, and_right, not_from_true, eq-eqb, ne_eqb, cases_order, cases_eq}
 
@@ -19,24 +18,6 @@ module _ (conflicts : Command → Command → Bool) (book : List Command) (x : �
   -- a message does not clash with itself
   same_out : (i j : ℕ) → i ≡ j → clash conflicts book x i j ≡ false
   same_out i j e = and_right _ _ (and_left _ _ (not_from_true _ (eq-eqb i j e)))
-
-  -- two messages of the set whose commands conflict
-  abbrev pub meets : ℕ → ℕ → Bool
-  meets i j = (has x i && has x j) && conflicts (command_of book i) (command_of book j)
-
-  -- for a lower message that is a clash
-  clash_below : (i j : ℕ) → j < i → clash conflicts book x i j ≡ meets i j
-  clash_below i j h =
-      ap (λ t. (has x i && has x j) && (not t && conflicts (command_of book i) (command_of book j)))
-      (ne_eqb i j (λ e. omega arith))
-
-  -- so a search below i tells
-  pub found_below : (i : ℕ) (r : Option ℕ)
-      → MatchOption r ((j : ℕ) → 0 ≤ j → j < i → meets i j ≡ false)
-      (λ j. (0 ≤ j) × (j < i) × (meets i j ≡ true) × ((k : ℕ) → 0 ≤ k → k < j → meets i k ≡ false))
-      → FoundBelow conflicts book x i r
-  found_below i (Some j) h = (h.1, clash_below i j h.1 ∙ h.2)
-  found_below i None h = λ j b. clash_below i j b ∙ h j (omega arith) b
 
   -- a clash is a conflict in the set
   pub conflicted_true : (i j : ℕ) → i < 64 → j < 64 → clash conflicts book x i j ≡ true → conflicted conflicts book x ≡ true

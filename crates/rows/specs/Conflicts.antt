@@ -1,5 +1,5 @@
 -- Conflicts among the messages of a set.
-use Rattle.std.specs.Prelude.{◌≡◌, ℕ, ◌<◌, Bool, true, false, not, ◌&&◌, List, pos, Some, None, Option, ◌==◌, slice_index_or}
+use Rattle.std.specs.Prelude.{◌≡◌, ℕ, Bool, true, false, not, ◌&&◌, List, pos, Some, None, Option, ◌==◌, slice_index_or}
 use Rattle.record.specs.declared.command.Command.{Command}
 use Rattle.rows.specs.Masks.{has, any}
 
@@ -23,11 +23,6 @@ clashes_with conflicts book x i = any (clash conflicts book x i) 64
 -- whether two different messages of the set conflict
 abbrev pub conflicted : (Command → Command → Bool) → List Command → ℕ → Bool
 conflicted conflicts book x = any (clashes_with conflicts book x) 64
-
--- what the search below one message answers: a lower one that clashes with it, or none where there is none
-abbrev pub FoundBelow : (Command → Command → Bool) → List Command → ℕ → ℕ → Option ℕ → Type 0
-FoundBelow conflicts book x i (Some j) = (j < i) × (clash conflicts book x i j ≡ true)
-FoundBelow conflicts book x i None = (j : ℕ) → j < i → clash conflicts book x i j ≡ false
 
 -- what the search for a conflict answers: any such pair, or none where there is none
 abbrev pub Found : (Command → Command → Bool) → List Command → ℕ → Option (ℕ × ℕ) → Type 0

@@ -1,5 +1,5 @@
 ghost use Rattle.std.specs.Prelude.{◌≡◌};
-ghost use Rattle.rows.specs.Conflicts.{command_of, Found, FoundBelow};
+ghost use Rattle.rows.specs.Conflicts.{command_of, Found};
 
 use crate::mask::{MOST_MESSAGES, has_bit};
 use record::command::Command;
@@ -12,22 +12,22 @@ pub fn command_of(book: &[Command], m: u8) -> Command
     book.get(usize::from(m)).copied().unwrap_or_default()
 }
 
-// A lower message of the set that conflicts with the message i of the set.
-fn conflict_below<R: Record>(book: &[Command], set: u64, i: u8) -> Option<u8>
-    ensures { FoundBelow R.Record.kind.conflicts book.now set i result }
-{
-    (0..i).find(|j| {
-        has_bit(set, i)
-            && has_bit(set, *j)
-            && R::in_conflict(command_of(book, i), command_of(book, *j))
-    })
-}
-
 // Two different messages of the set whose commands conflict, or that there are none.
+// Stays two loops left by a label: what is looked for is a pair, and both loops are over when it is found.
 pub fn find_conflict<R: Record>(book: &[Command], set: u64) -> Option<(u8, u8)>
     ensures { Found R.Record.kind.conflicts book.now set result }
 {
-    let i = (0..MOST_MESSAGES).find(|i| conflict_below::<R>(book, set, *i).is_some())?;
-    let j = conflict_below::<R>(book, set, i)?;
-    Some((i, j))
+    'search: {
+        for i in 0..MOST_MESSAGES {
+            for j in 0..i {
+                if has_bit(set, i)
+                    && has_bit(set, j)
+                    && R::in_conflict(command_of(book, i), command_of(book, j))
+                {
+                    break 'search Some((i, j));
+                }
+            }
+        }
+        None
+    }
 }
