@@ -21,7 +21,7 @@ module _ (K : Kind) (w₀ : World) (M₀ : Meaning) where
 
   module _ (bytes : List ℕ) (p₀ : ℕ) where
     -- and so does every turn of a walk
-    pub walk_day : (p : ℕ) (w : World) (M : Meaning) (yeas nays : ℕ) → Walk K bytes p₀ w₀ M₀ p w M yeas nays → Day K w₀ M₀ w M
+    pub walk_day : (p : ℕ) (w : World) (M : Meaning) (accepted refused : ℕ) → Walk K bytes p₀ w₀ M₀ p w M accepted refused → Day K w₀ M₀ w M
     walk_day _ _ _ _ _ sets_out = day.begins
-    walk_day _ _ _ _ _ (accepts p q w v M N a yeas nays k e t) = turn_day w M a true v N (walk_day p w M yeas nays k) t
-    walk_day _ _ _ _ _ (refuses p q w v M N a yeas nays k e t) = turn_day w M a false v N (walk_day p w M yeas nays k) t
+    walk_day _ _ _ _ _ (accepts p q w v M N a accepted refused k e t) = turn_day w M a true v N (walk_day p w M accepted refused k) t
+    walk_day _ _ _ _ _ (refuses p q w v M N a accepted refused k e t) = turn_day w M a false v N (walk_day p w M accepted refused k) t

@@ -22,7 +22,7 @@ fault_text f = texts.fault_text f ++ codes "\n"
 
 -- how many entries were accepted, and how many refused
 abbrev pub counts_text : ℕ → ℕ → List ℕ
-counts_text yeas nays = codes "accepted " ++ (decimal yeas ++ (codes " refused " ++ (decimal nays ++ codes "\n")))
+counts_text accepted refused = codes "accepted " ++ (decimal accepted ++ (codes " refused " ++ (decimal refused ++ codes "\n")))
 
 -- a message of a sheet
 abbrev pub message_text : ℕ → List ℕ
