@@ -1,4 +1,4 @@
-ghost use Rattle.std.specs.Prelude.{◌≡◌, slice_index};
+ghost use Rattle.std.specs.Prelude.{◌≡◌};
 ghost use Rattle.rows.specs.Letters.{kind_number};
 ghost use Rattle.node.specs.Tables.{lent_in, StillLent};
 ghost use Rattle.node.specs.Takes.{unheard_of, Passes, Takes};
@@ -14,21 +14,12 @@ const MOST_MESSAGES: u8 = 64;
 // What the table of broadcasters has for a message that nobody has broadcast.
 const NOBODY: u8 = 255;
 
-// The node that broadcast the message.
-fn broadcaster_of(broadcasters: &[u8], m: u8) -> u8
-    ensures { result ≡ slice_index broadcasters.now m }
-{
-    broadcasters
-        .get(usize::from(m))
-        .copied()
-        .unwrap_or_default()
-}
-
 // Whether the set has a message that nobody has broadcast.
 fn is_unheard_of(broadcasters: &[u8], set: u64) -> bool
     ensures { result ≡ unheard_of broadcasters.now set }
 {
-    (0..MOST_MESSAGES).any(|m| (set >> m) % 2 == 1 && broadcaster_of(broadcasters, m) == NOBODY)
+    (0..MOST_MESSAGES).any(|m| (set >> m) % 2 == 1
+        && broadcasters.get(usize::from(m)) == Some(&NOBODY))
 }
 
 impl Member {
