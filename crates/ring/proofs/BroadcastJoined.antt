@@ -9,7 +9,6 @@ use Rattle.chooser.specs.Meaning.{Meaning}
 use Rattle.protocol.specs.Calls.{Sends}
 use Rattle.protocol.specs.Runs.{broadcasts}
 use Rattle.protocol.specs.Sets.{Set}
-use Rattle.protocol.proofs.Running.{call_ok}
 use Rattle.rows.specs.Conflicts.{no_command, command_of}
 use Rattle.rows.specs.Letters.{data_letter, letter_of, no_room}
 use Rattle.rows.specs.declared.letter.Letter.{Letter}
@@ -19,6 +18,7 @@ use Rattle.rows.proofs.Clashes.{eqb_swap}
 use Rattle.ring.specs.World.{World, nodes_of, wrong_sizes, table_refusal, live_refusal}
 use Rattle.ring.specs.Broadcast.{broadcast_refusal, broadcast_by, Broadcasts}
 use Rattle.ring.specs.Promises.{conflict}
+use Rattle.ring.proofs.Called.{Called, refused_called}
 use Rattle.ring.proofs.Causes.{refuse_none, first_none, either_way, tables_fit, living}
 use Rattle.ring.proofs.Effects.{same_chooser, letters_stay, sends_to_all}
 use Rattle.ring.proofs.Membership.{set_one}
@@ -47,7 +47,7 @@ module _ {K : Kind} (laws : Laws K) {z : RingSize} {need : ℕ} {low : 1 ≤ nee
   letter = letter_of node data_letter 0 (2 ^ w.ring.messages)
 
   -- a broadcast that is not refused
-  broadcast_joined : broadcast_refusal K w node c ≡ None → Joined K z need low high after M
+  broadcast_joined : broadcast_refusal K w node c ≡ None → Called K z need low high w M after M
   broadcast_joined h =
       let f = j.fine in
       let now = w.ring.messages in
@@ -63,7 +63,7 @@ module _ {K : Kind} (laws : Laws K) {z : RingSize} {need : ℕ} {low : 1 ≤ nee
       let book-kept : (m : ℕ) → m < now → command_of (set w.book now c) m ≡ command_of w.book m =
       λ m k. get_or-set_other w.book now m c no_command (λ e. omega (arith, e, k)) in
       record {
-        ok = call_ok j.ok (broadcasts node (record {
+        call = broadcasts node (record {
           in_ring = l.in_ring;
           alive = l.alive;
           room = below;
@@ -79,7 +79,7 @@ module _ {K : Kind} (laws : Laws K) {z : RingSize} {need : ℕ} {low : 1 ≤ nee
           nodes = λ x k. refl;
           chooser = same_chooser K w after M;
           live = refl;
-        }));
+        });
         fine = record {
           size = f.size;
           nodes_length = f.nodes_length;
@@ -100,6 +100,7 @@ module _ {K : Kind} (laws : Laws K) {z : RingSize} {need : ℕ} {low : 1 ≤ nee
       }
 
   -- a broadcast, refused or not
-  pub broadcasts_joined : (r : Result ℕ Refusal) (v : World) → Broadcasts K w node c r v → Joined K z need low high v M
+  pub broadcasts_joined : (r : Result ℕ Refusal) (v : World) → Broadcasts K w node c r v → Called K z need low high w M v M
   broadcasts_joined r v h =
-      either_way (λ (q : World). Joined K z need low high q M) (broadcast_refusal K w node c) after w v h.1 broadcast_joined j
+      either_way (λ (q : World). Called K z need low high w M q M) (broadcast_refusal K w node c) after w v h.1 broadcast_joined
+      (refused_called j)

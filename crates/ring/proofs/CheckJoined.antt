@@ -23,6 +23,7 @@ use Rattle.rows.proofs.Clashes.{eqb_swap}
 use Rattle.rows.proofs.Receiving.{from_more}
 use Rattle.ring.specs.World.{World, quorum_of, letter_at}
 use Rattle.ring.specs.Receive.{must_relay, received}
+use Rattle.ring.proofs.Called.{Called}
 use Rattle.ring.proofs.Changing.{quorum_is}
 use Rattle.ring.proofs.KeptCount.{kept_count}
 use Rattle.ring.proofs.ReceiptWays.{Accepted, taker_row, row_after, it_counts, unrelayed, uncounted, taker_before, taker_after}
@@ -152,7 +153,7 @@ module _ {K : Kind} {z : RingSize} {need : ℕ} {low : 1 ≤ need} {high : need 
   -- it passes
   passing_joined : row_after w place ≡ row
       → (letter.stage < row.stage) ⊎ ((z.q ≤ count z.n taker.kept) ⊎ (letter.sender ∈ taker.kept))
-      → Joined K z need low high (received w place) M
+      → Called K z need low high w M (received w place) M
   passing_joined same late = receipt_joined j place t (subst (λ (r : Row). RowFine z r) (sym same) fine)
       (passes_check place (record {
         takes = takes j place t;
@@ -205,7 +206,7 @@ module _ {K : Kind} {z : RingSize} {need : ℕ} {low : 1 ≤ need} {high : need 
     })
 
     -- it is kept
-    keeping_joined : letter.stage ≡ row.stage → Joined K z need low high (received w place) M
+    keeping_joined : letter.stage ≡ row.stage → Called K z need low high w M (received w place) M
     keeping_joined same = receipt_joined j place t keeping_fine (keeps_check place (record {
       takes = takes j place t;
       kind = kind;
@@ -217,7 +218,7 @@ module _ {K : Kind} {z : RingSize} {need : ℕ} {low : 1 ≤ need} {high : need 
     }))
 
   -- a check of the receiver's stage
-  now_joined : letter.stage ≡ row.stage → Joined K z need low high (received w place) M
+  now_joined : letter.stage ≡ row.stage → Called K z need low high w M (received w place) M
   now_joined same =
       let quorum : ℕ = quorum_of w.ring.size in
       let checks : row_after w place ≡ after_check quorum letter row =
@@ -234,7 +235,7 @@ module _ {K : Kind} {z : RingSize} {need : ℕ} {low : 1 ≤ need} {high : need 
       ]
 
   -- a receipt of a check keeps all that holds of a world of a day
-  pub check_joined : Joined K z need low high (received w place) M
+  pub check_joined : Called K z need low high w M (received w place) M
   check_joined = elim (cases_eq letter.stage row.stage) [
     | inl e ↦ now_joined e
     | inr d ↦ passing_joined (row_is ∙ cond-false (is_check letter row) _ _ (and_right _ _ (ne_eqb _ _ d)))

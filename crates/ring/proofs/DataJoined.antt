@@ -20,6 +20,7 @@ use Rattle.rows.proofs.Anys.{any_true, any_false}
 use Rattle.ring.specs.World.{World, letter_at}
 use Rattle.ring.specs.Promises.{broadcaster}
 use Rattle.ring.specs.Receive.{must_relay, received}
+use Rattle.ring.proofs.Called.{Called}
 use Rattle.ring.proofs.Changing.{bounds, fine_row}
 use Rattle.ring.proofs.Membership.{has_minus, within_has, known_small, set_or}
 use Rattle.ring.proofs.ReceiptWays.{Accepted, taker_row, row_after, it_counts, uncounted, taker_before, taker_after, seen_after}
@@ -117,7 +118,7 @@ module _ {K : Kind} {z : RingSize} {need : ℕ} {low : 1 ≤ need} {high : need 
   -- ---- the three ways
 
   -- the receiver has the message
-  known_joined : message ∈ has row.received → Joined K z need low high (received w place) M
+  known_joined : message ∈ has row.received → Called K z need low high w M (received w place) M
   known_joined h = receipt_joined j place t row_fine (receives_known place message (record {
     takes = takes j place t;
     kind = kind;
@@ -140,7 +141,7 @@ module _ {K : Kind} {z : RingSize} {need : ℕ} {low : 1 ≤ need} {high : need 
 
   -- it broadcast the message
   own_joined : message ∉ has row.received → broadcaster w message ≡ letter.receiver
-      → Joined K z need low high (received w place) M
+      → Called K z need low high w M (received w place) M
   own_joined h own = receipt_joined j place t row_fine (receives_own place message (record {
     takes = takes j place t;
     kind = kind;
@@ -154,7 +155,7 @@ module _ {K : Kind} {z : RingSize} {need : ℕ} {low : 1 ≤ need} {high : need 
 
   -- the message is new to it
   relay_joined : message ∉ has row.received → (broadcaster w message ≡ letter.receiver → ⊥)
-      → Joined K z need low high (received w place) M
+      → Called K z need low high w M (received w place) M
   relay_joined h d = receipt_joined j place t row_fine (relays place message (record {
     takes = takes j place t;
     kind = kind;
@@ -171,7 +172,7 @@ module _ {K : Kind} {z : RingSize} {need : ℕ} {low : 1 ≤ need} {high : need 
           (any_true _ 64 message (below_64 message message_in) (and_from _ _ message_in (not_from_false _ (ne_eqb _ _ d)))))
 
   -- a receipt of data keeps all that holds of a world of a day
-  pub data_joined : Joined K z need low high (received w place) M
+  pub data_joined : Called K z need low high w M (received w place) M
   data_joined = elim (cases_Bool (has row.received message)) [
     | inl h ↦ known_joined h
     | inr h ↦ elim (cases_eq (broadcaster w message) letter.receiver) [ inl e ↦ own_joined h e | inr d ↦ relay_joined h d ]

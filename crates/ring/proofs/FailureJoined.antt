@@ -9,7 +9,6 @@ use Rattle.record.specs.Kind.{Kind}
 use Rattle.chooser.specs.Meaning.{Meaning}
 use Rattle.protocol.specs.Runs.{crashes, loses}
 use Rattle.protocol.specs.Sets.{Set, only, ◌∖◌}
-use Rattle.protocol.proofs.Running.{call_ok}
 use Rattle.rows.specs.Letters.{no_letter}
 use Rattle.rows.specs.declared.refusal.Refusal.{Refusal}
 use Rattle.rows.specs.declared.row.Row.{Row}
@@ -18,6 +17,7 @@ use Rattle.ring.specs.World.{World, has_crashed, letter_at, wrong_sizes, live_re
 use Rattle.ring.specs.Day.{with_ring}
 use Rattle.ring.specs.Fail.{crashed_by, Crashes, lose_refusal, lost_at, Loses}
 use Rattle.ring.specs.declared.ring.Ring.{Ring}
+use Rattle.ring.proofs.Called.{Called, refused_called}
 use Rattle.ring.proofs.Causes.{refuse_none, first_none, either_way, living, travels}
 use Rattle.ring.proofs.Changing.{has_row}
 use Rattle.ring.proofs.Effects.{same_chooser}
@@ -38,12 +38,12 @@ module _ {K : Kind} {z : RingSize} {need : ℕ} {low : 1 ≤ need} {high : need 
     (j : Joined K z need low high w M) where
   -- a crash of a live node
   crashed_joined : (node : ℕ) → live_refusal w.ring node ≡ None
-      → Joined K z need low high (with_ring w (crashed_by w.ring node)) M
+      → Called K z need low high w M (with_ring w (crashed_by w.ring node)) M
   crashed_joined node h =
       let f = j.fine in
       let l = living z w.ring node f.size h in
       record {
-        ok = call_ok j.ok (crashes node (record {
+        call = crashes node (record {
           in_ring = l.in_ring;
           alive = l.alive;
           live = without_crashed w.ring node (has_row f node l.in_ring);
@@ -52,7 +52,7 @@ module _ {K : Kind} {z : RingSize} {need : ℕ} {low : 1 ≤ need} {high : need 
           book = record { messages = refl; conflict = refl; broadcaster = refl };
           chooser = same_chooser K w (with_ring w (crashed_by w.ring node)) M;
           nodes = λ x k. ap (seen_node w.sheets x) (rows_kept w.ring node x);
-        }));
+        });
         fine = record {
           size = f.size;
           nodes_length = length-set w.ring.nodes node _ ∙ f.nodes_length;
@@ -67,13 +67,13 @@ module _ {K : Kind} {z : RingSize} {need : ℕ} {low : 1 ≤ need} {high : need 
 
   -- a crash, refused or not
   pub crashes_joined : (node : ℕ) (r : Result (Unit {0}) Refusal) (s : Ring) → Crashes w.ring node r s
-      → Joined K z need low high (with_ring w s) M
+      → Called K z need low high w M (with_ring w s) M
   crashes_joined node r s h =
-      either_way (λ (q : Ring). Joined K z need low high (with_ring w q) M) (live_refusal w.ring node)
-      (crashed_by w.ring node) w.ring s h.1 (crashed_joined node) j
+      either_way (λ (q : Ring). Called K z need low high w M (with_ring w q) M) (live_refusal w.ring node)
+      (crashed_by w.ring node) w.ring s h.1 (crashed_joined node) (refused_called j)
 
   -- a loss of a letter that has gone astray
-  lost_joined : (place : ℕ) → lose_refusal w place ≡ None → Joined K z need low high (lost_at w place) M
+  lost_joined : (place : ℕ) → lose_refusal w place ≡ None → Called K z need low high w M (lost_at w place) M
   lost_joined place h =
       let f = j.fine in
       let a = first_none (letter_refusal w place) _ h in
@@ -83,7 +83,7 @@ module _ {K : Kind} {z : RingSize} {need : ℕ} {low : 1 ≤ need} {high : need 
       let gone = (refuse_none (not sender && not receiver) _ _ a.1).0 in
       let same = length-set w.tray place _ in
       record {
-        ok = call_ok j.ok (loses place (record {
+        call = loses place (record {
           place = t.used;
           travels = t.mark;
           crashed = and_cases (not sender) (not receiver) gone;
@@ -96,7 +96,7 @@ module _ {K : Kind} {z : RingSize} {need : ℕ} {low : 1 ≤ need} {high : need 
           chooser = same_chooser K w (lost_at w place) M;
           nodes = λ x k. refl;
           live = refl;
-        }));
+        });
         fine = record {
           size = f.size;
           nodes_length = f.nodes_length;
@@ -111,7 +111,7 @@ module _ {K : Kind} {z : RingSize} {need : ℕ} {low : 1 ≤ need} {high : need 
 
   -- a loss, refused or not
   pub loses_joined : (place : ℕ) (r : Result (Unit {0}) Refusal) (v : World) → Loses w place r v
-      → Joined K z need low high v M
+      → Called K z need low high w M v M
   loses_joined place r v h =
-      either_way (λ (q : World). Joined K z need low high q M) (lose_refusal w place) (lost_at w place) w v h.1
-      (lost_joined place) j
+      either_way (λ (q : World). Called K z need low high w M q M) (lose_refusal w place) (lost_at w place) w v h.1
+      (lost_joined place) (refused_called j)

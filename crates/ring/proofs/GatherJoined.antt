@@ -8,7 +8,6 @@ use Rattle.protocol.specs.Calls.{Sends, Steps, Becomes}
 use Rattle.protocol.specs.Runs.{acknowledges, closes}
 use Rattle.protocol.specs.Setters.{with_pending as with-pending-set}
 use Rattle.protocol.specs.Sets.{Set, ◌∈◌, ◌∖◌}
-use Rattle.protocol.proofs.Running.{call_ok}
 use Rattle.rows.specs.Conflicts.{conflicted, clash}
 use Rattle.rows.specs.Letters.{acknowledgement, check_letter, letter_of, no_room}
 use Rattle.rows.specs.Masks.{has, within}
@@ -26,6 +25,7 @@ use Rattle.ring.specs.Gather.{gather_refusal, sending, acknowledged, closed, Gat
 use Rattle.ring.specs.Promises.{conflict}
 use Rattle.ring.specs.declared.step.Step.{Step}
 use Rattle.ring.specs.declared.step.Step.TheVariants.{Acknowledged, Closed, Proposed, Settled}
+use Rattle.ring.proofs.Called.{Called, refused_called}
 use Rattle.ring.proofs.Causes.{refuse_none, Lives}
 use Rattle.ring.proofs.Changing.{has_row, fine_changed, fine_row, other_seen, row_seen, bounds}
 use Rattle.ring.proofs.Effects.{same_chooser, letters_stay, sends_to_all}
@@ -104,7 +104,7 @@ module _ {K : Kind} {z : RingSize} {need : ℕ} {low : 1 ≤ need} {high : need 
 
   -- the node acknowledges what it has not delivered
   acknowledged_joined : gather_refusal w node ≡ None → conflicted K.conflicts w.book (undelivered (row_of w node)) ≡ false
-      → Joined K z need low high (acknowledged w node) M
+      → Called K z need low high w M (acknowledged w node) M
   acknowledged_joined accepted none =
       let x = undelivered (row_of w node) in
       let l = letter_of node acknowledgement (row_of w node).stage x in
@@ -113,7 +113,7 @@ module _ {K : Kind} {z : RingSize} {need : ℕ} {low : 1 ≤ need} {high : need 
       λ m h. subst (λ (S : Set). m ∈ S) (sym undelivered_seen) h in
       let change = becomes accepted l row in
       record {
-        ok = call_ok j.ok (acknowledges node (record {
+        call = acknowledges node (record {
           steps = steps accepted l row;
           gathering = not_closing;
           free = λ a b one other. free_of_conflict K w x a b none
@@ -126,14 +126,14 @@ module _ {K : Kind} {z : RingSize} {need : ℕ} {low : 1 ≤ need} {high : need 
             others = change.others;
           };
           chooser = same_chooser K w (acknowledged w node) M;
-        }));
+        });
         fine = fine accepted l row refl refl refl;
         chooser = j.chooser;
       }
 
   -- the node closes its stage, as a and b conflict
   closed_joined : (a b : ℕ) → gather_refusal w node ≡ None
-      → clash K.conflicts w.book (undelivered (row_of w node)) a b ≡ true → Joined K z need low high (closed w node) M
+      → clash K.conflicts w.book (undelivered (row_of w node)) a b ≡ true → Called K z need low high w M (closed w node) M
   closed_joined a b accepted both =
       let x = undelivered (row_of w node) in
       let l = letter_of node check_letter (row_of w node).stage (row_of w node).pending in
@@ -142,7 +142,7 @@ module _ {K : Kind} {z : RingSize} {need : ℕ} {low : 1 ≤ need} {high : need 
       let parts = and_parts (has x a && has x b) (conflict K w a b) both in
       let members = and_parts (has x a) (has x b) parts.0 in
       record {
-        ok = call_ok j.ok (closes node a b (record {
+        call = closes node a b (record {
           steps = steps accepted l row;
           gathering = not_closing;
           conflict = parts.1;
@@ -155,17 +155,17 @@ module _ {K : Kind} {z : RingSize} {need : ℕ} {low : 1 ≤ need} {high : need 
             others = change.others;
           };
           chooser = same_chooser K w (closed w node) M;
-        }));
+        });
         fine = fine accepted l row refl refl refl;
         chooser = j.chooser;
       }
 
   -- a step of the gathering node, refused or not
-  pub gathers_joined : (r : Result Step Refusal) (v : World) → Gathers K.conflicts w node r v → Joined K z need low high v M
+  pub gathers_joined : (r : Result Step Refusal) (v : World) → Gathers K.conflicts w node r v → Called K z need low high w M v M
   gathers_joined (Done Acknowledged) v h =
-      subst (λ (q : World). Joined K z need low high q M) (sym h.2) (acknowledged_joined h.0 h.1)
+      subst (λ (q : World). Called K z need low high w M q M) (sym h.2) (acknowledged_joined h.0 h.1)
   gathers_joined (Done (Closed a b)) v h =
-      subst (λ (q : World). Joined K z need low high q M) (sym h.3) (closed_joined a b h.0 h.2)
+      subst (λ (q : World). Called K z need low high w M q M) (sym h.3) (closed_joined a b h.0 h.2)
   gathers_joined (Done Proposed) v h = absurd h
   gathers_joined (Done Settled) v h = absurd h
-  gathers_joined (Err e) v h = subst (λ (q : World). Joined K z need low high q M) (sym h.1) j
+  gathers_joined (Err e) v h = subst (λ (q : World). Called K z need low high w M q M) (sym h.1) (refused_called j)

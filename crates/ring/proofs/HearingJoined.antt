@@ -25,6 +25,7 @@ use Rattle.rows.specs.declared.row.Row.{Row}
 use Rattle.rows.specs.declared.size.RingSize.{RingSize}
 use Rattle.ring.specs.World.{World, quorum_of, letter_at}
 use Rattle.ring.specs.Receive.{must_relay, received}
+use Rattle.ring.proofs.Called.{Called}
 use Rattle.ring.proofs.Changing.{nodes_are, quorum_is, bounds, sheet_small}
 use Rattle.ring.proofs.HeardEntries.{entry, heard_length, heard_beyond, heard_within, entry_has, entry_small}
 use Rattle.ring.proofs.Membership.{neither, has_or, has_high, has_minus, minus_small}
@@ -236,7 +237,7 @@ module _ {K : Kind} {z : RingSize} {need : ℕ} {low : 1 ≤ need} {high : need 
   })
 
   -- the acknowledgement counts
-  hearing_joined : it_counts w place ≡ true → Joined K z need low high (received w place) M
+  hearing_joined : it_counts w place ≡ true → Called K z need low high w M (received w place) M
   hearing_joined h =
       let parts = and_parts (is_gathering row.phase && eqb letter.kind acknowledgement) _ h in
       let gathers = (and_parts (is_gathering row.phase) _ parts.0).0 in
@@ -251,7 +252,7 @@ module _ {K : Kind} {z : RingSize} {need : ℕ} {low : 1 ≤ need} {high : need 
       }))
 
   -- it does not
-  passing_joined : it_counts w place ≡ false → Joined K z need low high (received w place) M
+  passing_joined : it_counts w place ≡ false → Called K z need low high w M (received w place) M
   passing_joined h = receipt_joined j place t (subst (λ (r : Row). RowFine z r) (sym row_stays) fine)
       (passes_acknowledgement place (record {
         takes = takes j place t;
@@ -286,5 +287,5 @@ module _ {K : Kind} {z : RingSize} {need : ℕ} {low : 1 ≤ need} {high : need 
       ]
 
   -- a receipt of an acknowledgement keeps all that holds of a world of a day
-  pub acknowledgement_joined : Joined K z need low high (received w place) M
+  pub acknowledgement_joined : Called K z need low high w M (received w place) M
   acknowledgement_joined = elim (cases_Bool (it_counts w place)) [ inl h ↦ hearing_joined h | inr h ↦ passing_joined h ]

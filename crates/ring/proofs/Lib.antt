@@ -1,6 +1,7 @@
 pub mod Allowed
 pub mod BlankRows
 pub mod BroadcastJoined
+pub mod Called
 pub mod Causes
 pub mod Changing
 pub mod CheckJoined

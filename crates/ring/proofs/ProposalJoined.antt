@@ -10,7 +10,6 @@ use Rattle.protocol.specs.Ring.{Size, Node as Seen-node}
 use Rattle.protocol.specs.Runs.{proposes}
 use Rattle.protocol.specs.Sets.{Set, ◌∈◌, ◌∉◌, count, ◌∖◌}
 use Rattle.protocol.proofs.Counting.{count_none}
-use Rattle.protocol.proofs.Running.{call_ok}
 use Rattle.rows.specs.Masks.{has}
 use Rattle.rows.specs.Proposals.{holding, in_majority, majority, proposed_sets, propose_refusal}
 use Rattle.rows.specs.Receipts.{from_sender, is_gathering, is_proposed}
@@ -26,6 +25,7 @@ use Rattle.ring.specs.World.{World, quorum_of, row_of}
 use Rattle.ring.specs.Close.{proposed_by, Proposing}
 use Rattle.ring.specs.declared.step.Step.{Step}
 use Rattle.ring.specs.declared.step.Step.TheVariants.{Acknowledged, Closed, Proposed, Settled}
+use Rattle.ring.proofs.Called.{Called, refused_called}
 use Rattle.ring.proofs.Causes.{refuse_none, proposal_none, Lives}
 use Rattle.ring.proofs.Changing.{quorum_is, has_row, fine_changed, fine_row, other_seen, row_seen, bounds}
 use Rattle.ring.proofs.ChooserSeen.{appended_fine, hands_in}
@@ -130,14 +130,14 @@ module _ {K : Kind} {z : RingSize} {need : ℕ} {low : 1 ≤ need} {high : need 
   -- the node proposes
   proposed_joined : (N : Meaning) → propose_refusal quorum node row M ≡ None
       → Appended M row.stage (proposal_of node (proposed_sets quorum row)) N → Sound N
-      → Joined K z need low high (proposed_by w node) N
+      → Called K z need low high w M (proposed_by w node) N
   proposed_joined N accepted appended sound =
       let causes = refuse_none (ltb row.checked quorum) _ _ accepted in
       let enough = causes.0 in
       let new = (proposal_none (M.proposals row.stage) row.stage node causes.1).1 in
       let f = j.fine in
       record {
-        ok = call_ok j.ok (proposes node (record {
+        call = proposes node (record {
           steps = record {
             in_ring = lives.in_ring;
             alive = lives.alive;
@@ -162,7 +162,7 @@ module _ {K : Kind} {z : RingSize} {need : ℕ} {low : 1 ≤ need} {high : need 
             others = λ x l d. other_seen w.sheets w.ring node (with_proposed row) x d;
           };
           silent = refl;
-        }));
+        });
         fine = fine_changed f node lives.in_ring (with_proposed row) (fine_row its_fine refl refl refl)
             w.ring.used w.tray w.sheets refl f.used_in_tray refl;
         chooser = appended_fine j.chooser row.stage node (proposed_sets quorum row) lives.in_ring new appended sound;
@@ -170,11 +170,11 @@ module _ {K : Kind} {z : RingSize} {need : ℕ} {low : 1 ≤ need} {high : need 
 
   -- the step of a closing node that has not proposed, refused or not
   pub proposing_joined : (r : Result Step Refusal) (v : World) (N : Meaning) → Proposing w M node r v N → Sound N
-      → Joined K z need low high v N
+      → Called K z need low high w M v N
   proposing_joined (Done Proposed) v N h sound =
-      subst (λ (q : World). Joined K z need low high q N) (sym h.2) (proposed_joined N h.0 h.1 sound)
+      subst (λ (q : World). Called K z need low high w M q N) (sym h.2) (proposed_joined N h.0 h.1 sound)
   proposing_joined (Done Acknowledged) v N h sound = absurd h
   proposing_joined (Done (Closed a b)) v N h sound = absurd h
   proposing_joined (Done Settled) v N h sound = absurd h
   proposing_joined (Err e) v N h sound =
-      subst (λ (q : World). Joined K z need low high q N) (sym h.1) (subst (Joined K z need low high w) (sym h.2) j)
+      subst (λ (q : World). Called K z need low high w M q N) (sym h.1) (subst (Called K z need low high w M w) (sym h.2) (refused_called j))

@@ -6,6 +6,7 @@ use Rattle.rows.specs.declared.refusal.Refusal.{Refusal}
 use Rattle.rows.specs.declared.size.RingSize.{RingSize}
 use Rattle.ring.specs.World.{World}
 use Rattle.ring.specs.Receive.{Receives, receive_refusal, received}
+use Rattle.ring.proofs.Called.{Called, refused_called}
 use Rattle.ring.proofs.Causes.{either_way}
 use Rattle.ring.proofs.CheckJoined.{check_joined}
 use Rattle.ring.proofs.DataJoined.{data_joined}
@@ -16,7 +17,7 @@ use Rattle.ring.proofs.Seeing.{Joined}
 module _ {K : Kind} {z : RingSize} {need : ℕ} {low : 1 ≤ need} {high : need ≤ z.q} {w : World} {M : Meaning}
     (j : Joined K z need low high w M) (place : ℕ) where
   -- one that nothing refuses, of a letter of any kind
-  received_joined : Accepted w place → Joined K z need low high (received w place) M
+  received_joined : Accepted w place → Called K z need low high w M (received w place) M
   received_joined t = elim (unspoilt j place t).kinds [
     | inl kind ↦ data_joined j place t kind
     | inr (inl kind) ↦ acknowledgement_joined j place t kind
@@ -24,7 +25,7 @@ module _ {K : Kind} {z : RingSize} {need : ℕ} {low : 1 ≤ need} {high : need 
   ]
 
   -- any receipt: one that is refused changes nothing
-  pub receives_joined : (r : Result (Unit {0}) Refusal) (v : World) → Receives w place r v → Joined K z need low high v M
+  pub receives_joined : (r : Result (Unit {0}) Refusal) (v : World) → Receives w place r v → Called K z need low high w M v M
   receives_joined r v h =
-      either_way (λ (u : World). Joined K z need low high u M) (receive_refusal w place) (received w place) w v h.1
-      (λ e. received_joined (accepted w place e)) j
+      either_way (λ (u : World). Called K z need low high w M u M) (receive_refusal w place) (received w place) w v h.1
+      (λ e. received_joined (accepted w place e)) (refused_called j)

@@ -12,7 +12,6 @@ use Rattle.protocol.specs.Promises.{Unspoilt}
 use Rattle.protocol.specs.Ring.{Node as Seen-node, Size}
 use Rattle.protocol.specs.Runs.{Call}
 use Rattle.protocol.specs.Sets.{Set}
-use Rattle.protocol.proofs.Running.{call_ok}
 use Rattle.rows.specs.Letters.{no_letter, data_letter, acknowledgement, taken, marked, letter_of}
 use Rattle.rows.specs.Masks.{has}
 use Rattle.rows.specs.Receipts.{taken_row, counts, is_reached, reached, heard_also}
@@ -23,6 +22,7 @@ use Rattle.rows.specs.declared.size.RingSize.{RingSize}
 use Rattle.rows.proofs.Masks.{those_lt}
 use Rattle.ring.specs.World.{World, nodes_of, quorum_of, row_of, has_crashed, letter_at, letter_refusal}
 use Rattle.ring.specs.Receive.{must_relay, cannot_relay, receive_refusal, relayed_tray, relayed_used, received}
+use Rattle.ring.proofs.Called.{Called}
 use Rattle.ring.proofs.Causes.{refuse_none, first_none, Travels, travels}
 use Rattle.ring.proofs.Changing.{nodes_are, has_row, fine_changed, other_seen, row_seen, sheet_small}
 use Rattle.ring.proofs.Effects.{same_chooser}
@@ -234,5 +234,5 @@ module _ {K : Kind} {z : RingSize} {need : ℕ} {low : 1 ≤ need} {high : need 
 
   -- a receipt that is a call of the protocol leads to a world of a day
   pub receipt_joined : RowFine z (row_after w place) → Call ring_size (seen K w M) (seen K (received w place) M)
-      → Joined K z need low high (received w place) M
-  receipt_joined g c = record { ok = call_ok j.ok c; fine = receipt_fine g; chooser = j.chooser }
+      → Called K z need low high w M (received w place) M
+  receipt_joined g c = record { call = c; fine = receipt_fine g; chooser = j.chooser }

@@ -13,7 +13,6 @@ use Rattle.protocol.specs.Nodes.{after_settling, settled_first, settled_then}
 use Rattle.protocol.specs.Ring.{Node as Seen-node}
 use Rattle.protocol.specs.Runs.{settles}
 use Rattle.protocol.specs.Sets.{Set, ◌∈◌, ◌∖◌, ◌∪◌}
-use Rattle.protocol.proofs.Running.{call_ok}
 use Rattle.rows.specs.Masks.{has}
 use Rattle.rows.specs.Receipts.{is_gathering, is_proposed}
 use Rattle.rows.specs.Rows.{on_sheet}
@@ -28,6 +27,7 @@ use Rattle.ring.specs.World.{World, row_of}
 use Rattle.ring.specs.Close.{decision_for, settled_by, Settling}
 use Rattle.ring.specs.declared.step.Step.{Step}
 use Rattle.ring.proofs.BlankRows.{begins_fine, beginning, begins_seen}
+use Rattle.ring.proofs.Called.{Called, refused_called}
 use Rattle.ring.proofs.Causes.{not_some, either_way, tables_of, Lives}
 use Rattle.ring.proofs.Changing.{has_row, fine_changed, other_seen, row_seen, sheet_small}
 use Rattle.ring.proofs.Effects.{same_chooser}
@@ -165,11 +165,11 @@ module _ {K : Kind} {z : RingSize} {need : ℕ} {low : 1 ≤ need} {high : need 
         ∙ grown_elsewhere w.sheets node (on_sheet row) decided.0 (sheet_small j node lives.in_ring) first_small x _ d few
 
     -- the node settles its stage
-    settled_joined : Joined K z need low high (settled_by w node decided) M
+    settled_joined : Called K z need low high w M (settled_by w node decided) M
     settled_joined =
         let f = j.fine in
         record {
-          ok = call_ok j.ok (settles node (record {
+          call = settles node (record {
             steps = record {
               in_ring = lives.in_ring;
               alive = lives.alive;
@@ -188,7 +188,7 @@ module _ {K : Kind} {z : RingSize} {need : ℕ} {low : 1 ≤ need} {high : need 
             };
             chooser = same_chooser K w (settled_by w node decided) M;
             silent = refl;
-          }));
+          });
           fine = fine_changed f node lives.in_ring (settled_row decided row) (begins_fine z (row.stage + 1) row.received _)
               w.ring.used w.tray written refl f.used_in_tray
               (grown_length halfway node (with_first decided row) decided.1
@@ -198,9 +198,10 @@ module _ {K : Kind} {z : RingSize} {need : ℕ} {low : 1 ≤ need} {high : need 
 
   -- the step of a closing node that has proposed, refused or not
   pub settling_joined : (r : Result Step Refusal) (v : World) (N : Meaning) → Settling w M node r v N
-      → Joined K z need low high v N
+      → Called K z need low high w M v N
   settling_joined r v N h =
       let told = decision_for w M node in
-      subst (Joined K z need low high v) (sym h.2)
-      (either_way (λ (q : World). Joined K z need low high q M) (settle_refusal told) (settled_by w node (decided_of told)) w v
-      h.1 (λ e. settled_joined (decided_of told) (told_stands (served row.stage) (M.decision row.stage) e)) j)
+      subst (Called K z need low high w M v) (sym h.2)
+      (either_way (λ (q : World). Called K z need low high w M q M) (settle_refusal told) (settled_by w node (decided_of told)) w v
+      h.1 (λ e. settled_joined (decided_of told) (told_stands (served row.stage) (M.decision row.stage) e))
+      (refused_called j))

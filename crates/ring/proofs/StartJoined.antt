@@ -1,6 +1,6 @@
 -- An accepted start joins the world to a start of the protocol.
 use Rattle.std.proofs.Common.{◌≡◌, ℕ, ◌-◌, ◌*◌, ◌<◌, ◌≤◌, false, not, ltb, leb, List, [], length, get_or, take, drop}
-use Rattle.std.proofs.Common.{replicate, None, Option, sym, refl, ap, ◌∙◌, subst, ap₂, inl, inr, arith}
+use Rattle.std.proofs.Common.{replicate, Some, None, Ok, Err, Option, Result, sym, refl, ap, ◌∙◌, subst, ap₂, inl, inr, arith}
 use lib.Count.{ones, ones-ones}
 use Rattle.std.proofs.lemmas.List.{length-replicate, get_or-replicate, nil_from_length}
 use Rattle.std.proofs.lemmas.List.Folds.{list_any_at}
@@ -13,14 +13,16 @@ use Rattle.chooser.specs.declared.proposal.Proposal.{Proposal}
 use Rattle.protocol.specs.Nodes.{fresh}
 use Rattle.protocol.specs.Sets.{Set}
 use Rattle.protocol.proofs.Running.{start_ok}
+use Rattle.rows.specs.Causes.{outcome, unless}
 use Rattle.rows.specs.Conflicts.{no_command}
 use Rattle.rows.specs.Letters.{no_letter}
 use Rattle.rows.specs.Masks.{has}
 use Rattle.rows.specs.Rows.{new_row}
+use Rattle.rows.specs.declared.refusal.Refusal.{Refusal}
 use Rattle.rows.specs.declared.row.Row.{Row}
 use Rattle.rows.specs.declared.size.RingSize.{RingSize}
 use Rattle.ring.specs.World.{World, no_node, wrong_sizes, table_refusal}
-use Rattle.ring.specs.Start.{new_node, is_used, in_use, start_refusal, started}
+use Rattle.ring.specs.Start.{new_node, is_used, in_use, start_refusal, started, Starts}
 use Rattle.ring.specs.declared.ring.Node.{Node}
 use Rattle.ring.proofs.BlankRows.{begins_fine, beginning, begins_seen}
 use Rattle.ring.proofs.BroadcastJoined.{conflict_both_sides, conflict_not_itself}
@@ -28,6 +30,23 @@ use Rattle.ring.proofs.Causes.{refuse_none, first_none, tables_fit}
 use Rattle.ring.proofs.Membership.{has_none, set_none}
 use Rattle.ring.proofs.NodesKept.{nobody_crashed}
 use Rattle.ring.proofs.Seeing.{stands, left_of, right_of, seen_node, Listed, RowFine, Joined}
+
+-- ---- what a start answers and leaves
+
+-- by the cause that turns it down, or none
+by_cause : (P : Result (Unit {0}) Refusal → World → Type 0) (z : RingSize) (u : World) (o : Option Refusal)
+    → (o ≡ None → P (Ok tt) (started z u)) → ((e : Refusal) → P (Err e) u) → P (outcome o) (unless o (started z u) u)
+by_cause P z u None accepted refused = accepted refl
+by_cause P z u (Some e) accepted refused = refused e
+
+-- what holds after an accepted start and after any refused one holds after every start
+pub each_start : (P : Result (Unit {0}) Refusal → World → Type 0) (z : RingSize) (u v : World) (M : Meaning)
+    (r : Result (Unit {0}) Refusal) → Starts z u M r v → (start_refusal z u M ≡ None → P (Ok tt) (started z u))
+    → ((e : Refusal) → P (Err e) u) → P r v
+each_start P z u v M r h accepted refused =
+    subst (λ (a : Result (Unit {0}) Refusal). P a v) (sym h.0)
+    (subst (λ (w : World). P (outcome (start_refusal z u M)) w) (sym h.1)
+    (by_cause P z u (start_refusal z u M) accepted refused))
 
 -- ---- a new row
 
