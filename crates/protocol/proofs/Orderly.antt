@@ -197,7 +197,7 @@ module _ {z : Size} {s t : State} (i : ℕ) (k : Takes s t i) where
 -- ---- each call
 
 -- every call of a run
-call_orderly : {z : Size} {s t : State} → Ok z s → Call z s t → Orderly z s t
+pub call_orderly : {z : Size} {s t : State} → Ok z s → Call z s t → Orderly z s t
 call_orderly {z} {s} {t} o (broadcasts r c) =
     orderly (mail_sends c.sends c.letters) (λ A B h. absurd h)
     (sends_data z s r s.messages c.alive fresh (inl refl)) (live_same s t c.live) (not_asked c.chooser)

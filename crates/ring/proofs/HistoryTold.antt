@@ -36,7 +36,7 @@ use Rattle.ring.proofs.NodesKept.{crashed_kept, crashed_here, crashed_elsewhere,
 -- ---- calls that neither broadcast nor crash
 
 -- the part of a world that only broadcasts and crashes change, the size of its ring, and how many nodes that keeps
-record Ledger : Type 0 where
+pub record Ledger : Type 0 where
   pub size : Option RingSize
   pub messages : ℕ
   pub broadcasters : List ℕ
@@ -56,7 +56,7 @@ ledger_with w nodes crashed = record {
 }
 
 -- of a world
-abbrev ledger : World → Ledger
+abbrev pub ledger : World → Ledger
 ledger w = ledger_with w (length w.ring.nodes) (has_crashed w.ring)
 
 -- another row of a node leaves it
@@ -69,11 +69,11 @@ call_leaves : (o : Option Refusal) (changed w v : World) → v ≡ unless o chan
 call_leaves o changed w v h e = either_way (λ (x : World). ledger x ≡ ledger w) o changed w v h (λ _. e) refl
 
 -- a receipt does
-receipt_leaves : (w : World) (place : ℕ) (r : Result (Unit {0}) Refusal) (v : World) → Receives w place r v → ledger v ≡ ledger w
+pub receipt_leaves : (w : World) (place : ℕ) (r : Result (Unit {0}) Refusal) (v : World) → Receives w place r v → ledger v ≡ ledger w
 receipt_leaves w place r v h = call_leaves (receive_refusal w place) (received w place) w v h.1 (row_leaves w _ _)
 
 -- and a loss
-loss_leaves : (w : World) (place : ℕ) (r : Result (Unit {0}) Refusal) (v : World) → Loses w place r v → ledger v ≡ ledger w
+pub loss_leaves : (w : World) (place : ℕ) (r : Result (Unit {0}) Refusal) (v : World) → Loses w place r v → ledger v ≡ ledger w
 loss_leaves w place r v h = call_leaves (lose_refusal w place) (lost_at w place) w v h.1 refl
 
 module _ (K : Kind) (w : World) (M : Meaning) (node : ℕ) (v : World) (N : Meaning) where
@@ -108,7 +108,7 @@ module _ (K : Kind) (w : World) (M : Meaning) (node : ℕ) (v : World) (N : Mean
   cause_leaves None r h = phase_leaves (row_of w node).phase r h
 
   -- so every step
-  step_leaves : (r : Result Step Refusal) → Steps K w M node r v N → ledger v ≡ ledger w
+  pub step_leaves : (r : Result Step Refusal) → Steps K w M node r v N → ledger v ≡ ledger w
   step_leaves r h = cause_leaves (stepper_refusal w node) r h
 
 -- ---- accepted and refused calls

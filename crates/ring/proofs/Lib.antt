@@ -10,11 +10,13 @@ pub mod DataJoined
 pub mod DayJoined
 pub mod Effects
 pub mod FailureJoined
+pub mod Followed
 pub mod GatherJoined
 pub mod HeardEntries
 pub mod HearingJoined
 pub mod HistoryTold
 pub mod KeptCount
+pub mod Lasting
 pub mod Membership
 pub mod NodesKept
 pub mod PromisesKept

@@ -13,7 +13,7 @@ use Rattle.rows.specs.declared.refusal.Refusal.{Refusal}
 use Rattle.rows.specs.declared.size.RingSize.{RingSize}
 use Rattle.ring.specs.World.{World}
 use Rattle.ring.specs.Show.{sheet_of, show_refusal}
-use Rattle.ring.specs.CatchUp.{all_playable, played, catch_up_refusal, CatchesUp}
+use Rattle.ring.specs.CatchUp.{all_playable, played, since, catch_up_refusal, CatchesUp}
 use Rattle.ring.specs.Promises.{conflict, NeverUnplayable, SameSheetsSameList}
 use Rattle.ring.proofs.Allowed.{passed, both_passed, show_allowed}
 use Rattle.ring.proofs.Seeing.{Fine, Joined}
@@ -93,24 +93,29 @@ module _ {K : Kind} {z : RingSize} {w : World} (laws : Laws K) (f : Fine K z w) 
 
 module _ {K : Kind} {z : RingSize} {need : ℕ} {low : 1 ≤ need} {high : need ≤ z.q} {w : World} {M : Meaning}
     (laws : Laws K) (j : Joined K z need low high w M) where
-  -- nothing refuses a catching up from mark 0
-  catch_up_allowed : (r : ℕ) → r < z.n → catch_up_refusal K w r 0 ≡ None
-  catch_up_allowed r l =
+  -- nothing refuses a catching up from a mark within the sheet, as long as what it plays stands there
+  pub catch_up_allowed : (r : ℕ) → r < z.n → (mark : ℕ) → mark ≤ length (sheet_of w r)
+      → ((m : ℕ) → Mem m (since w r mark) → Mem m (sheet_of w r)) → catch_up_refusal K w r mark ≡ None
+  catch_up_allowed r l mark within there =
       both_passed (show_refusal w r) _ (show_allowed j.fine r l)
-      (passed (ltb (length (sheet_of w r)) 0) _ _ (le-ltb (length (sheet_of w r)) 0 (omega arith))
-      (passed (not (all_playable K w.book w.ring.messages (sheet_of w r))) _ _
-      (not_from_true _ (messages_playable laws j.fine (sheet_of w r) (j.ok.nodes r l).sheet.known)) refl))
+      (passed (ltb (length (sheet_of w r)) mark) _ _ (le-ltb (length (sheet_of w r)) mark within)
+      (passed (not (all_playable K w.book w.ring.messages (since w r mark))) _ _
+      (not_from_true _ (messages_playable laws j.fine (since w r mark) (λ m h. (j.ok.nodes r l).sheet.known m (there m h)))) refl))
 
-  -- so it answers the new mark
+  -- so not from mark 0
+  pub from_mark_0 : (r : ℕ) → r < z.n → catch_up_refusal K w r 0 ≡ None
+  from_mark_0 r l = catch_up_allowed r l 0 (omega arith) (λ m h. h)
+
+  -- and it answers the new mark
   pub never_unplayable : NeverUnplayable K z w
   never_unplayable r l a x y c =
-      c.0 ∙ ap (λ (o : Option Refusal). answer o (length (sheet_of w r))) (catch_up_allowed r l)
+      c.0 ∙ ap (λ (o : Option Refusal). answer o (length (sheet_of w r))) (from_mark_0 r l)
 
   -- and its list is what the machine makes of the sheet
   caught_up : (r : ℕ) → r < z.n → (l l' : List ℕ) (a : Result ℕ Refusal) → CatchesUp K w r 0 a l l'
       → l' ≡ fold (after laws j.fine) l (sheet_of w r)
   caught_up r h l l' a c =
-      c.1 ∙ ap (λ (o : Option Refusal). unless o (played K w.book l (sheet_of w r)) l) (catch_up_allowed r h)
+      c.1 ∙ ap (λ (o : Option Refusal). unless o (played K w.book l (sheet_of w r)) l) (from_mark_0 r h)
       ∙ sym (folded_is_played laws j.fine (sheet_of w r) l (j.ok.nodes r h).sheet.known)
 
   -- which is the same for two sheets with the same messages

@@ -3,6 +3,7 @@ pub mod CatchUp
 pub mod Close
 pub mod Day
 pub mod Fail
+pub mod Following
 pub mod Gather
 pub mod History
 pub mod Promises

@@ -1,6 +1,7 @@
 ghost use Rattle.std.specs.Prelude.{◌≡◌, ◌≤◌, not, length, replicate, ◌==◌};
 ghost use Rattle.ring.specs.World.{world_of, StillLent};
 ghost use Rattle.ring.specs.Start.{is_used, in_use, Starts};
+ghost use Rattle.ring.specs.Following.{EveryRecordFollows};
 ghost use Rattle.ring.specs.Theorem.{EveryDayKeeps};
 
 use crate::ring::Ring;
@@ -30,7 +31,7 @@ fn is_in_use<C: Chooser>(chooser: &C) -> bool
 impl Ring {
     // Starts a day: empties the tables and the ring, which gets this size. Refused: 4 a table has the wrong size; 5 the
     // chooser's need is above the quorum; 6 a stage of the chooser has a proposal. Once it is accepted, whatever calls
-    // follow, every promise of a day is kept at every point of it (the theorem).
+    // follow, every promise of a day is kept at every point of it (the theorem), and records follow nodes in parts.
     pub fn start<C: Chooser>(
         &mut self,
         size: RingSize,
@@ -43,6 +44,9 @@ impl Ring {
             (C.Chooser.meaning chooser.now) result
             (world_of self.new tables.new) }
         ensures days { EveryDayKeeps size result
+            (world_of self.new tables.new)
+            (C.Chooser.meaning chooser.now) }
+        ensures follows { EveryRecordFollows size result
             (world_of self.new tables.new)
             (C.Chooser.meaning chooser.now) }
     {
