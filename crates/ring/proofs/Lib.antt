@@ -32,4 +32,3 @@ pub mod SheetsPlayed
 pub mod StartJoined
 pub mod StepAnswers
 pub mod StepJoined
-pub mod WitnessDays

@@ -12,5 +12,4 @@ pub mod Show
 pub mod Start
 pub mod Step
 pub mod Theorem
-pub mod Witnesses
 pub mod World

@@ -18,4 +18,3 @@ pub mod starting;
 pub mod step;
 pub mod stepping;
 pub mod tables;
-pub mod witnesses;
