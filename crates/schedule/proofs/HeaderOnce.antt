@@ -49,9 +49,9 @@ Spelled bytes p x = OneHeader bytes p x.0 x.1
 pub header_once : (bytes : List ℕ) (p : ℕ) (x : Header × ℕ) → AllBytes bytes → header_at bytes p ≡ Ok x →
     OneHeader bytes p x.0 x.1
 header_once bytes p x f e =
-    let g1 = through_ok InNumber (number_at 65535 bytes p) _ x e in
+    let g1 = through_ok InNumber (number_at _ bytes p) _ x e in
     let n : ℕ × ℕ = g1.0 in
-    let g2 = through_ok InNumber (number_at 65535 bytes n.1) _ x g1.2 in
+    let g2 = through_ok InNumber (number_at _ bytes n.1) _ x g1.2 in
     let q : ℕ × ℕ = g2.0 in
     let g3 = through_ok (λ f. f) (kind_at chooser_kind bytes q.1) _ x g2.2 in
     let c : ChooserKind × ℕ = g3.0 in
@@ -60,8 +60,8 @@ header_once bytes p x f e =
     let s : ◌≡◌ {A = Header × ℕ} (header_of n.0 q.0 c.0 r.0, r.1) x = same_ok _ _ g4.2 in
     let k3 = kind_ok chooser_kind bytes q.1 c g3.1 in
     let k4 = kind_ok record_kind bytes c.1 r g4.1 in
-    let r1 = read_once 65535 p n.0 n.1 bytes (omega arith) f g1.1 in
-    let r2 = read_once 65535 n.1 q.0 q.1 bytes (omega arith) f g2.1 in
+    let r1 = read_once _ p n.0 n.1 bytes (omega arith) f g1.1 in
+    let r2 = read_once _ n.1 q.0 q.1 bytes (omega arith) f g2.1 in
     let r3 = read_once 255 q.1 k3.0 c.1 bytes (omega arith) f k3.1 in
     let r4 = read_once 255 c.1 k4.0 r.1 bytes (omega arith) f k4.1 in
     let cs = number_of_chooser c.0 in

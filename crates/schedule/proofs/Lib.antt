@@ -9,3 +9,8 @@ pub mod Onward
 pub mod Places
 pub mod EntryOnce
 pub mod HeaderOnce
+pub mod Lengths
+pub mod Back
+pub mod EntryBack
+pub mod HeaderBack
+pub mod DayBack

@@ -170,8 +170,8 @@ entry_err p bytes f h = then p (length bytes) (kind_at entry_kind bytes p) _ f (
 -- a fault of a header likewise
 pub header_err : (p : ℕ) (bytes : List ℕ) (f : EntryFault) → p ≤ length bytes → header_at bytes p ≡ Err f →
     Between p (length bytes) (place_of f)
-header_err p bytes f h = read_then InNumber place_of 65535 p bytes _ f h (λ d. refl) (λ n o l e.
-    earlier p n.1 _ _ o (read_then InNumber place_of 65535 n.1 bytes _ f l (λ d. refl) (λ q o l e.
+header_err p bytes f h = read_then InNumber place_of _ p bytes _ f h (λ d. refl) (λ n o l e.
+    earlier p n.1 _ _ o (read_then InNumber place_of _ n.1 bytes _ f l (λ d. refl) (λ q o l e.
     earlier n.1 q.1 _ _ o (then q.1 (length bytes) (kind_at chooser_kind bytes q.1) _ f (kind_err chooser_kind q.1 bytes f l)
     (λ c g e. past_kind chooser_kind q.1 bytes c _ l g (λ l. then c.1 (length bytes) (kind_at record_kind bytes c.1) _ f
     (kind_err record_kind c.1 bytes f l) (λ r g e. absurd (ok_err _ f e)) e)) e)) e))

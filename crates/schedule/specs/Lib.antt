@@ -9,3 +9,4 @@ pub mod Drafts
 pub mod Laws
 pub mod Texts
 pub mod Readings
+pub mod ReadingBack

@@ -7,6 +7,7 @@ pub mod entry;
 pub mod fault;
 pub mod header;
 pub mod kind;
+pub mod laws;
 mod numbers;
 mod read_command;
 mod read_entry;

@@ -1,4 +1,1 @@
-pub mod Lengths
 pub mod Growing
-pub mod Back
-pub mod EntryBack

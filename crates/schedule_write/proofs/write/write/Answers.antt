@@ -1,7 +1,7 @@
 use Rattle.std.proofs.Common.{◌≡◌, ◌+◌, ◌++◌, length, take, drop, sym, ap, ◌∙◌, arith, rules}
 use Rattle.std.proofs.lemmas.List.{take_all}
 use Rattle.schedule.specs.Drafts.{spelled, numbers_of, spelling}
-use Rattle.schedule_write.proofs.EntryBack.{reads_back}
+use Rattle.schedule.proofs.EntryBack.{reads_back}
 use Rattle.schedule_write.proofs.Growing.{length_more, room, one_more}
 use Rattle.schedule_write.proofs.write.write.Goals as goal
 

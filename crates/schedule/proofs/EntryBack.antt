@@ -17,8 +17,8 @@ use Rattle.schedule.specs.Entries.{Act, broadcast, receive, step, crash, lose, s
 use Rattle.schedule.specs.Drafts.{raised, fields, spelled, spelling, within, act_drafted}
 use Rattle.schedule.specs.Drafts.{CommandInRange, InRange}
 use Rattle.schedule.specs.Laws.{ReadsBack}
-use Rattle.schedule_write.proofs.Back.{next}
-use Rattle.schedule_write.proofs.Lengths.{length_spell, spell_some}
+use Rattle.schedule.proofs.Back.{next}
+use Rattle.schedule.proofs.Lengths.{length_spell, spell_some, length_2, length_4}
 
 -- an amount reads back
 raised_back : (a : ℤ) → negsuc 32767 ≤ℤ a → pos (raised a) -ℤ pos 32768 ≡ a
@@ -27,25 +27,6 @@ raised_back a h = omega (arith, ints)
 -- an amount is written within its limit
 raised_most : (a : ℤ) → negsuc 32767 ≤ℤ a → a ≤ℤ pos 32767 → raised a ≤ 65535
 raised_most a h k = omega (arith, ints)
-
--- the length of four numbers
-length_4 : (a b c d : ℕ) → length (spelled (a ∷ b ∷ c ∷ d ∷ []))
-    ≡ length (spell a) + length (spell b) + length (spell c) + length (spell d)
-length_4 a b c d =
-    let s = spell d ++ [] in
-    let t = spell c ++ s in
-    let u = spell b ++ t in
-    omega (
-      arith,
-      length-append (spell a) u,
-      length-append (spell b) t,
-      length-append (spell c) s,
-      length-append (spell d) [],
-    )
-
--- the length of two numbers
-length_2 : (a b : ℕ) → length (spelled (a ∷ b ∷ [])) ≡ length (spell a) + length (spell b)
-length_2 a b = omega (arith, length-append (spell a) (spell b ++ []), length-append (spell b) [])
 
 -- a command that takes up the rest reads back
 command_back : (c : Command) (bytes : List ℕ) (p : ℕ) → CommandInRange c → p ≤ length bytes →
@@ -133,7 +114,7 @@ module _ (ys bytes : List ℕ) (p : ℕ) where
       simp (n1.0, n2.0, n3.0, b) (ap (λ i. Ok (broadcast node c s, i)) place)
 
   -- an entry whose bytes stand at a place reads back
-  entry_back : (d : Draft) → within d ≡ true → InRange d → drop p bytes ≡ spelling d ++ ys →
+  pub entry_back : (d : Draft) → within d ≡ true → InRange d → drop p bytes ≡ spelling d ++ ys →
       entry_at bytes p ≡ Ok (act_drafted d, p + length (spelling d))
   entry_back (Broadcast node c) w f e = broadcast_back node c (leb-true node 255 w) f e
   entry_back (Receive x) w f e =

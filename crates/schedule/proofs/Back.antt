@@ -57,7 +57,7 @@ read_back limit v p bytes ys h l e =
     (spell_tight v ys (omega arith))))))
 
 -- what stands past a front
-after : (s ys bytes : List ℕ) (p : ℕ) → drop p bytes ≡ s ++ ys → drop (p + length s) bytes ≡ ys
+pub after : (s ys bytes : List ℕ) (p : ℕ) → drop p bytes ≡ s ++ ys → drop (p + length s) bytes ≡ ys
 after s ys bytes p e =
     sym (drop-drop (length s) p bytes) ∙ (ap (drop (length s)) e ∙ drop_at s ys (length s) refl)
 
