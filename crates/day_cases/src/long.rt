@@ -1,3 +1,4 @@
+use report::input::report_from;
 use report::report::report_of;
 use std::alloc::{AllocError, Global};
 use std::test::Fail;
@@ -48,6 +49,24 @@ fn full_tray(rt: HostRuntime) -> Result<(), Fail> {
     assert_eq!(rt;
         got.as_str(),
         "node 0 stage 1 live\nnode 1 stage 1 live\nnode 2 stage 1 live\nnode 3 stage 1 live\nnode 4 stage 1 live\nnode 5 stage 1 live\nnode 6 stage 1 live\naccepted 146 refused 1\n"
+    );
+    Ok(())
+}
+
+// Of a reader with 5,000 bytes no more than 4,097 are taken; one with 4,096 is read whole.
+#[test]
+fn from_a_reader(rt: HostRuntime) -> Result<(), Fail> {
+    let heap = rt.alloc();
+    let long = steps(heap, 2_498)?;
+    let mut rest = long.as_slice();
+    let told = report_from(heap, &mut rest)?;
+    assert_eq!(rt; told.as_str(), "long\n");
+    assert_eq!(rt; rest.len(), 903);
+    let whole = steps(heap, 2_046)?;
+    let told = report_from(heap, whole.as_slice())?;
+    assert_eq!(rt;
+        told.as_str(),
+        "node 0 stage 1 live\naccepted 0 refused 2046\n"
     );
     Ok(())
 }

@@ -1,3 +1,4 @@
 pub mod EveryNodeShown
 pub mod Growing
 pub mod NewChooser
+pub mod FirstBytes

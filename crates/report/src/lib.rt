@@ -2,6 +2,7 @@
 #![tactic(auto)]
 
 pub mod day;
+pub mod input;
 pub mod lines;
 pub mod report;
 pub mod sheets;

@@ -19,7 +19,7 @@ use schedule::reader::Reader;
 use std::alloc::{AllocError, Global};
 
 // The most bytes that a day may have.
-const MOST_BYTES: usize = 4096;
+pub const MOST_BYTES: usize = 4096;
 
 // Stays four parameters and more: each of these functions hands on what it has not used.
 
