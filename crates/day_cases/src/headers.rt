@@ -4,8 +4,10 @@ use std::test::Fail;
 // Headers that start no day: a fault in them, or numbers that make no ring.
 #[test]
 fn headers(rt: HostRuntime) -> Result<(), Fail> {
-    let cases: [(&[u8], &str); 14] = [
+    let cases: [(&[u8], &str); 16] = [
         (&[], "fault 41 at 0\n"),
+        (&[1], "fault 41 at 1\n"),
+        (&[0x80], "fault 41 at 0\n"),
         (&[1, 1, 1], "fault 41 at 3\n"),
         (&[0x80, 0x80, 0x04, 1, 1, 1], "fault 42 at 0\n"),
         (&[1, 1, 0x81, 0, 1], "fault 42 at 2\n"),

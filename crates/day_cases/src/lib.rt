@@ -9,3 +9,7 @@ mod headers;
 mod helpers;
 #[cfg(test)]
 mod long;
+#[cfg(test)]
+mod rings;
+#[cfg(test)]
+mod sheets;

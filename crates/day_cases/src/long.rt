@@ -70,3 +70,17 @@ fn from_a_reader(rt: HostRuntime) -> Result<(), Fail> {
     );
     Ok(())
 }
+
+// A fault far behind: the place of an unknown entry is counted over all that was read before it.
+#[test]
+fn fault_after_many_entries(rt: HostRuntime) -> Result<(), Fail> {
+    let heap = rt.alloc();
+    let mut bytes = steps(heap, 1_000)?;
+    bytes.extend_from_slice(&[9])?;
+    let got = report_of(heap, bytes.as_slice())?;
+    assert_eq!(rt;
+        got.as_str(),
+        "node 0 stage 1 live\naccepted 0 refused 1000\nfault 43 at 2004\n"
+    );
+    Ok(())
+}

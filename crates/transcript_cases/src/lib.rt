@@ -8,4 +8,6 @@ mod helpers;
 #[cfg(test)]
 mod kinds;
 #[cfg(test)]
+mod many_lines;
+#[cfg(test)]
 mod numbers;
