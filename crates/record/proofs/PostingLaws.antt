@@ -15,7 +15,7 @@ times_placed z r (x ∷ xs) =
     let behind = times_placed z r xs in
     let swapped : old + (new + times z xs) ≡ new + (old + times z xs) = omega arith in
     ⊎_elim
-    (λ (h : ahead r x ≡ true). simp h (ap (λ (n : ℕ). new + n) (times_placed z x xs)))
+    (λ (h : ahead r x ≡ true). simp h)
     (λ (h : ahead r x ≡ false). simp h (ap (λ (n : ℕ). old + n) behind ∙ swapped))
     (cases_Bool (ahead r x))
 

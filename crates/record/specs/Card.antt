@@ -8,10 +8,10 @@ use Rattle.record.specs.declared.rounds.card.Round.{Round}
 abbrev pub ahead : Round → Round → Bool
 ahead x y = nat_lt y.day x.day || (x.day == y.day && int_le x.amount y.amount)
 
--- one round more: it stops where it is ahead, and from there each round moves one place on
+-- one round more: it goes before the first that it is ahead of, or else to the end
 abbrev pub placed : Round → List Round → List Round
 placed r [] = r ∷ []
-placed r (x ∷ xs) = cond (ahead r x) (r ∷ placed x xs) (x ∷ placed r xs)
+placed r (x ∷ xs) = cond (ahead r x) (r ∷ x ∷ xs) (x ∷ placed r xs)
 
 -- a player keeps twenty rounds: the twenty-first pushes out the last
 abbrev pub posted : Round → List Round → List Round

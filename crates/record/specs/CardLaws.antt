@@ -11,7 +11,7 @@ use Rattle.record.specs.Card.{in_order, is_card}
 use Rattle.record.specs.Rounds.{posts, adjusts, rounds_lawful, round_of, card_after}
 use Rattle.record.specs.declared.command.Command.{Command}
 use Rattle.record.specs.declared.rounds.card.Round.{Round}
-use Rattle.record.specs.Placing.{ahead_total, ahead_trans}
+use Rattle.record.specs.Placing.{ahead_total}
 use Rattle.record.specs.PlacingFacts.{PlacingFacts}
 
 pub card_parts : (xs : List Round) → is_card xs ≡ true → (length xs ≤ 20) × (in_order xs ≡ true) × (all_in_range xs ≡ true)
@@ -32,18 +32,12 @@ leads_placed z r [] a f = a
 leads_placed z r (x ∷ xs) a f =
     ⊎_elim (λ (h : ahead r x ≡ true). simp h a) (λ (h : ahead r x ≡ false). simp h f) (cases_Bool (ahead r x))
 
-leads_over : (z x : Round) (xs : List Round) → ahead z x ≡ true → leads x xs ≡ true → leads z xs ≡ true
-leads_over z x [] a f = refl
-leads_over z x (y ∷ xs) a f = ahead_trans z x y a f
-
 pub order_placed : (r : Round) (xs : List Round) → in_order xs ≡ true → in_order (placed r xs) ≡ true
 order_placed r [] e = refl
 order_placed r (x ∷ xs) e =
     let k = and_parts (leads x xs) (in_order xs) e in
     ⊎_elim
-    (λ (h : ahead r x ≡ true).
-    simp h (and_from (leads r (placed x xs)) (in_order (placed x xs))
-    (leads_placed r x xs h (leads_over r x xs h k.0)) (order_placed x xs k.1)))
+    (λ (h : ahead r x ≡ true). simp h e)
     (λ (h : ahead r x ≡ false).
     simp h (and_from (leads x (placed r xs)) (in_order (placed r xs))
     (leads_placed x r xs (ahead_total r x h) k.0) (order_placed r xs k.1)))
@@ -68,10 +62,8 @@ range_placed r [] a e = and_from (in_range r) true a refl
 range_placed r (x ∷ xs) a e =
     let k = and_parts (in_range x) (all_in_range xs) e in
     ⊎_elim
-    (λ (h : ahead r x ≡ true).
-    simp h (and_from (in_range r) (all_in_range (placed x xs)) a (range_placed x xs k.0 k.1)))
-    (λ (h : ahead r x ≡ false).
-    simp h (and_from (in_range x) (all_in_range (placed r xs)) k.0 (range_placed r xs a k.1)))
+    (λ (h : ahead r x ≡ true). simp h (and_from (in_range r) (all_in_range (x ∷ xs)) a e))
+    (λ (h : ahead r x ≡ false). simp h (and_from (in_range x) (all_in_range (placed r xs)) k.0 (range_placed r xs a k.1)))
     (cases_Bool (ahead r x))
 
 range_take : (n : ℕ) (xs : List Round) → all_in_range xs ≡ true → all_in_range (take n xs) ≡ true

@@ -12,13 +12,15 @@ fn is_ahead(x: Round, y: Round) -> bool
     (Reverse(x.day), x.amount) <= (Reverse(y.day), y.amount)
 }
 
-// Puts the round in its place, and gives the one that it drives out at the end.
+// Puts the round in its place, from which each round moves one place on, and gives the one that is driven out at the end.
 pub(super) fn put_in_place(rounds: &mut [Round], round: Round) -> Round
     ensures { rounds.new ++ result ∷ [] ≡ placed round rounds.old }
 {
     let mut carried = round;
+    let mut found = false;
     for here in rounds.iter_mut() {
-        if is_ahead(carried, *here) {
+        found = found || is_ahead(carried, *here);
+        if found {
             mem::swap(here, &mut carried);
         }
     }
