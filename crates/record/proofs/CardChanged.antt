@@ -8,7 +8,7 @@ use Rattle.record.specs.PlacingFacts.{PlacingFacts}
 use Rattle.record.specs.declared.rounds.card.Round.{Round}
 
 -- how a round finds its place
-placing_facts : PlacingFacts
+pub placing_facts : PlacingFacts
 placing_facts = record { either_first = placed_ahead; past = placed_take; ordered = order_placed; ranged = range_placed }
 
 -- the rounds after a posting are again in play

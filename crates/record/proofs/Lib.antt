@@ -1,2 +1,3 @@
 pub mod CardChanged
+pub mod KindsLaws
 pub mod PostingLaws

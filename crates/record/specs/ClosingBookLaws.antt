@@ -1,23 +1,11 @@
 -- The laws of a closing book, from those of the record below.
-use Rattle.std.specs.Prelude.{◌≡◌, ℕ, suc, Bool, true, false, cond, ◌||◌, List, [], ◌∷◌, length, ◌==◌, nat_eq, nat_le, refl}
+use Rattle.std.specs.Prelude.{◌≡◌, ℕ, suc, Bool, true, false, cond, List, [], ◌∷◌, length, ◌==◌, nat_eq, nat_le, refl}
 use Rattle.std.proofs.Common.{arith, ap, ⊎_elim}
-use Rattle.std.proofs.lemmas.Bool.{and_parts, and_from, or_parts, cases_Bool, false≢true}
+use Rattle.std.proofs.lemmas.Bool.Decides.{nat_tests}
+use Rattle.std.proofs.lemmas.Bool.{and_parts, and_from, cases_Bool, false≢true}
 use Rattle.record.specs.Kind.{Kind, Laws}
 use Rattle.record.specs.ClosingBook.{closes, turns, closing_lawful, closing_after, closing_tells, closing_kind}
 use Rattle.record.specs.declared.command.Command.{Command}
-
--- conflict is mutual if it is below
-turns_either_way : (x y a b : Bool) → a ≡ b → (x || (y || a)) ≡ (y || (x || b))
-turns_either_way true true a b e = refl
-turns_either_way true false a b e = refl
-turns_either_way false true a b e = refl
-turns_either_way false false a b e = e
-
--- an unlawful command is a turn, or unlawful below
-unlawful_below : (x y f a k : Bool) → cond x f a ≡ false → (a ≡ false → k ≡ true) → (x || (y || k)) ≡ true
-unlawful_below true y f a k e below = refl
-unlawful_below false true f a k e below = refl
-unlawful_below false false f a k e below = below e
 
 module _ (K : Kind) (p : Laws K) where
   sized : (l : List ℕ) → closing_tells K l ≡ true → length l ≡ suc K.taking.size
@@ -56,10 +44,10 @@ module _ (K : Kind) (p : Laws K) where
   pub closing_laws : Laws (closing_kind K)
   closing_laws = record {
     steady = record { something = omega arith; starts = p.steady.starts; sized = sized; keeps = keeps };
-    symmetric = λ c d. turns_either_way (turns c) (turns d) _ _ (p.symmetric c d);
-    unlawful = λ c d e. unlawful_below (turns c) (turns d) _ (K.taking.lawful c) (K.conflicts c d) e (p.unlawful c d);
+    symmetric = λ c d. let below = p.symmetric c d in grind (arith, nat_tests);
+    unlawful = λ c d e. let below = p.unlawful c d in grind (arith, nat_tests);
     commute = λ l c d e m n h.
-        let a = or_parts (turns c) (turns d || K.conflicts c d) h in
-        let b = or_parts (turns d) (K.conflicts c d) a.1 in
-        commute l c d e a.0 b.0 (rw a.0 at m) (rw b.0 at n) b.1;
+        let a : turns c ≡ false = grind (arith, nat_tests) in
+        let b : turns d ≡ false = grind (arith, nat_tests) in
+        commute l c d e a b (rw a at m) (rw b at n) (grind (arith, nat_tests));
   }

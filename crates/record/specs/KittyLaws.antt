@@ -1,14 +1,11 @@
 -- The laws of the kitty.
-use Rattle.std.specs.Prelude.{◌≡◌, ℕ, ◌+◌, min, true, false, not, ◌&&◌, ◌||◌, List, [], ◌∷◌, length, nat_le, refl}
+use Rattle.std.specs.Prelude.{◌≡◌, ℕ, ◌+◌, min, true, List, [], ◌∷◌, length, nat_le, refl}
 use Rattle.std.proofs.Common.{arith, ap}
-use Rattle.std.proofs.Math.Bool.{or_comm}
 use Rattle.std.proofs.lemmas.Bool.Decides.{nat_tests}
-use Rattle.std.proofs.lemmas.Bool.{and_parts, or_parts, false≢true}
+use Rattle.std.proofs.lemmas.Bool.{false≢true}
 use Rattle.record.specs.Kind.{Laws}
-use Rattle.record.specs.Kitty.{pays, draws, of_kitty, whole, balance_after, kitty_lawful, kitty_after, kitty_tells}
-use Rattle.record.specs.Kitty.{kitty_conflicts, kitty_kind}
+use Rattle.record.specs.Kitty.{pays, whole, balance_after, kitty_after, kitty_tells, kitty_kind}
 use Rattle.record.specs.declared.command.Command.{Command}
-use Rattle.record.specs.Conflicts.{either_way}
 
 sized : (l : List ℕ) → kitty_tells l ≡ true → length l ≡ 1
 sized [] e = absurd (false≢true e)
@@ -27,10 +24,6 @@ keeps (b ∷ (x ∷ l)) c e = e
 paid_twice : (b x y : ℕ) → min (min (b + x) 4294967295 + y) 4294967295 ≡ min (min (b + y) 4294967295 + x) 4294967295
 paid_twice b x y = omega arith
 
--- a lawful command that does not draw pays in
-pays_else : (c : Command) → kitty_lawful c ≡ true → draws c ≡ false → pays c ≡ true
-pays_else c p no-draw = let h = (and_parts (pays c || draws c) (of_kitty c) p).0 in grind (arith, nat_tests)
-
 payments_commute : (l : List ℕ) (c d : Command) → pays c ≡ true → pays d ≡ true →
     kitty_after (kitty_after l c) d ≡ kitty_after (kitty_after l d) c
 payments_commute [] c d p q = refl
@@ -39,16 +32,11 @@ payments_commute (b ∷ l) c d p q =
     simp (p, q) (paid_twice b (whole c.amount) (whole d.amount)) in
     ap (λ (x : ℕ). x ∷ l) e
 
-neither_draws : (c d : Command) → kitty_conflicts c d ≡ false → (draws c ≡ false) × (draws d ≡ false)
-neither_draws c d n =
-    or_parts (draws c) (draws d) (or_parts (not (kitty_lawful c && kitty_lawful d)) (draws c || draws d) n).1
-
 pub kitty_laws : Laws kitty_kind
 kitty_laws = record {
   steady = record { something = omega arith; starts = refl; sized = sized; keeps = λ l c e p. keeps l c e };
-  symmetric = λ c d. either_way (kitty_lawful c) (kitty_lawful d) _ _ (or_comm (draws c) (draws d));
+  symmetric = λ c d. grind (arith, nat_tests);
   unlawful = λ c d e. rw e;
-  commute = λ l c d e p q n.
-      let no = neither_draws c d n in
-      payments_commute l c d (pays_else c p no.0) (pays_else d q no.1);
+  -- commands that do not conflict both pay in
+  commute = λ l c d e p q n. payments_commute l c d (grind (arith, nat_tests)) (grind (arith, nat_tests));
 }

@@ -15,6 +15,7 @@ pub mod RoundsOrder
 pub mod RecordKind
 pub mod Table
 pub mod ClosingBookLaws
+pub mod KindsKeepLaws
 pub mod KittyLaws
 pub mod Conflicts
 pub mod PairLaws

@@ -1,21 +1,13 @@
 -- The laws of two records side by side, from the laws of each.
-use Rattle.std.specs.Prelude.{◌≡◌, ℕ, ◌+◌, Bool, true, false, cond, not, ◌&&◌, List, ◌++◌, length, refl}
+use Rattle.std.specs.Prelude.{◌≡◌, ℕ, ◌+◌, true, false, List, ◌++◌, length}
 use Rattle.std.proofs.Common.{arith, ap, ◌∙◌, sym, subst, ⊎_elim, take-append-drop, length-append}
+use Rattle.std.proofs.lemmas.Bool.Decides.{nat_tests}
 use Rattle.std.proofs.lemmas.List.{take_at, drop_at}
-use Rattle.std.proofs.lemmas.Bool.{and_parts, and_from, or_parts, cases_Bool}
+use Rattle.std.proofs.lemmas.Bool.{and_parts, and_from, cases_Bool}
 use Rattle.record.specs.Kind.{Kind, Laws}
-use Rattle.record.specs.Pair.{is_left, at_side, left_part, right_part, pair_lawful, sides_conflict, pair_after}
+use Rattle.record.specs.Pair.{is_left, at_side, left_part, right_part, pair_lawful, pair_after}
 use Rattle.record.specs.Pair.{pair_tells, pair_kind}
 use Rattle.record.specs.declared.command.Command.{Command}
-use Rattle.record.specs.Conflicts.{either_way}
-
--- conflict on the sides is mutual if it is on each side
-sides_either_way : (x y a a' b b' : Bool) → a ≡ a' → b ≡ b' →
-    cond x (cond y a false) (cond y false b) ≡ cond y (cond x a' false) (cond x false b')
-sides_either_way true true a a' b b' p q = p
-sides_either_way true false a a' b b' p q = refl
-sides_either_way false true a a' b b' p q = refl
-sides_either_way false false a a' b b' p q = q
 
 -- a told list of the left, and what stands behind it
 module _ (L R : Kind) (a b : List ℕ) (n : length a ≡ L.taking.size) where
@@ -47,6 +39,12 @@ module _ (L R : Kind) (p : Laws L) (q : Laws R) where
   starts =
       both_tell L R L.taking.first R.taking.first (p.steady.sized L.taking.first p.steady.starts)
       p.steady.starts q.steady.starts
+
+  -- two commands for one side do not conflict there
+  abbrev ApartOnSides : Command → Command → Type 0
+  ApartOnSides c d =
+      (is_left c ≡ true → is_left d ≡ true → L.conflicts (at_side c) (at_side d) ≡ false)
+      × (is_left c ≡ false → is_left d ≡ false → R.conflicts (at_side c) (at_side d) ≡ false)
 
   -- lists that the two sides can tell
   module _ (a b : List ℕ) (f : L.taking.tells a ≡ true) (g : R.taking.tells b ≡ true) where
@@ -96,7 +94,7 @@ module _ (L R : Kind) (p : Laws L) (q : Laws R) where
         ∙ left_after L R a (R.taking.after b (at_side d)) as_long c e
 
     -- two sides never meet; on one side, its own law serves
-    parts_commute : (c d : Command) → pair_lawful L R c ≡ true → pair_lawful L R d ≡ true → sides_conflict L R c d ≡ false →
+    parts_commute : (c d : Command) → pair_lawful L R c ≡ true → pair_lawful L R d ≡ true → ApartOnSides c d →
         pair_after L R (pair_after L R (a ++ b) c) d ≡ pair_after L R (pair_after L R (a ++ b) d) c
     parts_commute c d m n h =
         ⊎_elim
@@ -104,7 +102,7 @@ module _ (L R : Kind) (p : Laws L) (q : Laws R) where
         ⊎_elim
         (λ (u : is_left d ≡ true).
         both_left c d e u m
-        ∙ ap (λ (x : List ℕ). x ++ b) (p.commute a (at_side c) (at_side d) f (rw e at m) (rw u at n) (simp (e, u) at h))
+        ∙ ap (λ (x : List ℕ). x ++ b) (p.commute a (at_side c) (at_side d) f (rw e at m) (rw u at n) (h.0 e u))
         ∙ sym (both_left d c u e n))
         (λ (u : is_left d ≡ false). left_then_right c d e u m ∙ sym (right_then_left c d e u))
         (cases_Bool (is_left d)))
@@ -113,7 +111,7 @@ module _ (L R : Kind) (p : Laws L) (q : Laws R) where
         (λ (u : is_left d ≡ true). right_then_left d c u e ∙ sym (left_then_right d c u e n))
         (λ (u : is_left d ≡ false).
         both_right c d e u
-        ∙ ap (λ (x : List ℕ). a ++ x) (q.commute b (at_side c) (at_side d) g (rw e at m) (rw u at n) (simp (e, u) at h))
+        ∙ ap (λ (x : List ℕ). a ++ x) (q.commute b (at_side c) (at_side d) g (rw e at m) (rw u at n) (h.1 e u))
         ∙ sym (both_right d c u e))
         (cases_Bool (is_left d)))
         (cases_Bool (is_left c))
@@ -126,7 +124,7 @@ module _ (L R : Kind) (p : Laws L) (q : Laws R) where
       (keeps_parts (left_part L l) (right_part L l) f.0 f.1 c m)
 
   commute : (l : List ℕ) (c d : Command) → pair_tells L R l ≡ true → pair_lawful L R c ≡ true →
-      pair_lawful L R d ≡ true → sides_conflict L R c d ≡ false →
+      pair_lawful L R d ≡ true → ApartOnSides c d →
       pair_after L R (pair_after L R l c) d ≡ pair_after L R (pair_after L R l d) c
   commute l c d e m n h =
       let f = parts l e in
@@ -142,10 +140,10 @@ module _ (L R : Kind) (p : Laws L) (q : Laws R) where
       sized = sized;
       keeps = keeps;
     };
-    symmetric = λ c d. either_way (pair_lawful L R c) (pair_lawful L R d) (sides_conflict L R c d) (sides_conflict L R d c)
-        (sides_either_way (is_left c) (is_left d) _ _ _ _
-        (p.symmetric (at_side c) (at_side d)) (q.symmetric (at_side c) (at_side d)));
+    symmetric = λ c d.
+        let left = p.symmetric (at_side c) (at_side d) in
+        let right = q.symmetric (at_side c) (at_side d) in
+        grind (arith, nat_tests);
     unlawful = λ c d e. rw e;
-    commute = λ l c d e m n h. commute l c d e m n
-        (or_parts (not (pair_lawful L R c && pair_lawful L R d)) (sides_conflict L R c d) h).1;
+    commute = λ l c d e m n h. commute l c d e m n (λ x y. grind (arith, nat_tests), λ x y. grind (arith, nat_tests));
   }

@@ -1,17 +1,14 @@
 -- The laws of the rounds of eight players.
-use Rattle.std.specs.Prelude.{◌≡◌, ℕ, zero, suc, ◌<◌, Bool, true, false, not, ◌&&◌, ◌||◌, ◌≢◌, List, [], ◌∷◌, length, get_or}
-use Rattle.std.specs.Prelude.{set, take, pos, negsuc, ◌==◌, nat_eq, nat_lt, slice_index_or, slice_set, refl}
+use Rattle.std.specs.Prelude.{◌≡◌, ℕ, zero, suc, ◌<◌, true, false, ◌||◌, ◌≢◌, List, [], ◌∷◌, length, get_or}
+use Rattle.std.specs.Prelude.{set, take, ◌==◌, nat_eq, nat_lt, slice_index_or, slice_set, refl}
 use Rattle.std.proofs.Common.{arith, ap, ◌∙◌, sym, subst, ⊎_elim}
-use Rattle.std.proofs.Math.Bool.{or_comm}
 use Rattle.std.proofs.lemmas.Bool.Decides.{nat_tests}
 use Rattle.std.proofs.lemmas.List.{length-set, get_or-set_same, get_or-set_other, set-set, set_comm}
-use Rattle.std.proofs.lemmas.Bool.{and_parts, and_from, or_parts, or_cases, cases_Bool, eqb-true, eqb-false, eq-eqb, ltb-true}
-use Rattle.std.proofs.lemmas.Bool.{true≢false}
-use Rattle.record.specs.Card.{ahead, placed, posted, between, is_card, are_cards}
-use Rattle.record.specs.Coded.{Runs}
+use Rattle.std.proofs.lemmas.Bool.{and_parts, and_from, cases_Bool, eqb-true, eqb-false, eq-eqb, ltb-true}
+use Rattle.record.specs.Card.{ahead, placed, posted, is_card, are_cards}
 use Rattle.record.specs.Kind.{Laws}
-use Rattle.record.specs.Rounds.{posts, adjusts, rounds_lawful, players_conflict, round_of, card_after, cards_after}
-use Rattle.record.specs.Rounds.{encode_cards, decode_cards, rounds_machine, rounds_kind}
+use Rattle.record.specs.Rounds.{posts, adjusts, rounds_lawful, players_conflict, rounds_conflicts, round_of, card_after}
+use Rattle.record.specs.Rounds.{cards_after, encode_cards, decode_cards, rounds_machine, rounds_kind}
 use Rattle.record.specs.declared.command.Command.{Command}
 use Rattle.record.specs.declared.rounds.card.Round.{Round}
 use Rattle.record.specs.CardLaws.{after_card}
@@ -73,16 +70,6 @@ one_player ts i f g lt e =
     simp (get_or-set_same ts i x [] lt, get_or-set_same ts i y [] lt, set-set ts i x (g x), set-set ts i y (f y))
     (ap (set ts i) (sym e))
 
--- a lawful command that does not adjust posts
-posts_else : (c : Command) → rounds_lawful c ≡ true → (c.verb == 2) ≡ false → (c.verb == 1) ≡ true
-posts_else c p e =
-    let q = (and_parts (nat_lt c.subject 8) (posts c || adjusts c) p).1 in
-    let in-day : Bool = c.day == 0 && between (negsuc 99) (pos 100) c.amount in
-    ⊎_elim
-    (λ (h : posts c ≡ true). (and_parts (c.verb == 1) (between (negsuc 998) (pos 999) c.amount) h).0)
-    (λ (h : adjusts c ≡ true). absurd (true≢false (sym (and_parts (c.verb == 2) in-day h).0 ∙ e)))
-    (or_cases (posts c) (adjusts c) q)
-
 -- two rounds may be posted in either order
 
 placed_commute : PlacingFacts → (a b : Round) (xs : List Round) → placed a (placed b xs) ≡ placed b (placed a xs)
@@ -106,26 +93,19 @@ both_post k ts c d lt s a b =
     changed i (card_after d) (cards_after ts c) ≡ changed c.subject (card_after c) (changed i (card_after d) ts)) s
     (one_player ts c.subject (card_after c) (card_after d) lt m)
 
+-- commands of one player that both post, and commands of two players
 commute : PlacingFacts → (ts : List (List Round)) (c d : Command) → rounds_machine.valid ts ≡ true → rounds_lawful c ≡ true →
-    rounds_lawful d ≡ true → players_conflict c d ≡ false → cards_after (cards_after ts c) d ≡ cards_after (cards_after ts d) c
-commute k ts c d e p q n =
+    ((c.subject == d.subject) ≡ true → ((c.verb == 1) ≡ true) × ((d.verb == 1) ≡ true)) →
+    cards_after (cards_after ts c) d ≡ cards_after (cards_after ts d) c
+commute k ts c d e p both =
     ⊎_elim
     (λ (z : nat_eq c.subject d.subject ≡ true).
-    let w = or_parts (c.verb == 2) (d.verb == 2) (rw z at n) in
     let len = (eight_cards ts e).0 in
     let lt = subject_below c p in
-    both_post k ts c d (omega arith) (eqb-true c.subject d.subject z) (posts_else c p w.0) (posts_else d q w.1))
+    both_post k ts c d (omega arith) (eqb-true c.subject d.subject z) (both z).0 (both z).1)
     (λ (z : nat_eq c.subject d.subject ≡ false).
     two_players ts c.subject d.subject (card_after c) (card_after d) (eqb-false c.subject d.subject z))
     (cases_Bool (c.subject == d.subject))
-
-eqb_either_way : (i j : ℕ) → (i == j) ≡ (j == i)
-eqb_either_way i j = grind (arith, nat_tests)
-
-players_either_way : (c d : Command) → players_conflict c d ≡ players_conflict d c
-players_either_way c d =
-    ap (λ (b : Bool). b && (c.verb == 2 || d.verb == 2)) (eqb_either_way c.subject d.subject)
-    ∙ ap (λ (b : Bool). (d.subject == c.subject) && b) (or_comm (c.verb == 2) (d.verb == 2))
 
 -- the told list is read back to the rounds that it tells
 pub read_back : (ts : List (List Round)) → rounds_machine.valid ts ≡ true → rounds_machine.decode (encode_cards ts) ≡ ts
@@ -133,18 +113,20 @@ read_back ts e =
     let h = eight_cards ts e in
     subst (λ (k : ℕ). decode_cards k (encode_cards ts) ≡ ts) h.0 (cards_back ts h.1)
 
-rounds_runs : PlacingFacts → Runs rounds_machine
-rounds_runs f = record {
-  something = omega arith;
-  starts = refl;
-  back = read_back;
-  long = λ ts e. let h = eight_cards ts e in let l = h.0 in cards_width ts h.1 ∙ omega arith;
-  holds = after_valid f;
-  symmetric = λ c d. either_way (rounds_lawful c) (rounds_lawful d) _ _ (players_either_way c d);
-  unlawful = λ c d e. rw e;
-  commute = λ ts c d e p q n.
-      commute f ts c d e p q (or_parts (not (rounds_lawful c && rounds_lawful d)) (players_conflict c d) n).1;
-}
-
 pub rounds_laws : PlacingFacts → Laws rounds_kind
-rounds_laws f = coded_laws rounds_machine (rounds_runs f)
+rounds_laws =
+    -- commands of one player that do not conflict both post
+    let both : (c d : Command) → rounds_lawful c ≡ true → rounds_lawful d ≡ true → rounds_conflicts c d ≡ false →
+    (c.subject == d.subject) ≡ true → ((c.verb == 1) ≡ true) × ((d.verb == 1) ≡ true) =
+    λ c d p q n z. (grind (arith, nat_tests), grind (arith, nat_tests)) in
+    λ f. coded_laws rounds_machine (record {
+      something = omega arith;
+      starts = refl;
+      back = read_back;
+      long = λ ts e. let h = eight_cards ts e in let l = h.0 in cards_width ts h.1 ∙ omega arith;
+      holds = after_valid f;
+      symmetric = λ c d. either_way (rounds_lawful c) (rounds_lawful d) (players_conflict c d) (players_conflict d c)
+          (grind (arith, nat_tests));
+      unlawful = λ c d e. rw e;
+      commute = λ ts c d e p q n. commute f ts c d e p (both c d p q n);
+    })

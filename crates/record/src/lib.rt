@@ -4,6 +4,7 @@
 pub mod closing_book;
 pub mod command;
 pub mod kitty;
+pub mod laws;
 pub mod pair;
 pub mod record;
 pub mod record_kind;
