@@ -51,5 +51,5 @@ worked_cases =
     ∷ leaves rounds_kind (fifties 20 ++ (post 99 50 ∷ [])) (20 ∷ (told_fifties 20 ++ others))
     ∷ leaves rounds_kind (fifties 20 ++ (post 100 40 ∷ [])) (20 ∷ 100 ∷ 10040 ∷ (told_fifties 19 ++ others))
     ∷ leaves (pair_kind rounds_kind kitty_kind) (about 2 (post 100 50) ∷ about 1 (pay 50) ∷ [])
-        (replicate 41 0 ++ (1 ∷ 100 ∷ 10050 ∷ (replicate 284 0 ++ (50 ∷ []))))
+    (replicate 41 0 ++ (1 ∷ 100 ∷ 10050 ∷ (replicate 284 0 ++ (50 ∷ []))))
     ∷ []

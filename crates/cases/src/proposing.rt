@@ -1,5 +1,6 @@
 use chooser::chooser::Chooser;
 use chooser::first_come::FirstCome;
+use rows::letter::Letter;
 use rows::row::{Check, Phase, Row};
 use rows::size::RingSize;
 use std::test::Fail;
@@ -19,5 +20,23 @@ fn what_most_checks_have_does_not_conflict(rt: HostRuntime) -> Result<(), Fail> 
     row.propose(RingSize::new(4, 3)?, &mut chooser, 0)?;
     assert_eq!(rt; chooser.decision(1)?, Some((0b01, 0b10)));
     assert_eq!(rt; row.phase, Phase::Waiting);
+    Ok(())
+}
+
+// In the same ring, a fourth check comes after these three: it is not kept. Counted, it would put message 1 too into two
+// checks, and both messages would be nonconflicting.
+#[test]
+fn a_check_beyond_the_quorum_is_not_kept(rt: HostRuntime) -> Result<(), Fail> {
+    let size = RingSize::new(4, 3)?;
+    let mut row = Row::new();
+    row.received = 0b11;
+    row.phase = Phase::Closing;
+    for (sender, set) in [(0, 0b01), (1, 0b01), (2, 0b10), (3, 0b10)] {
+        row.take(size, Letter::check(sender, 1, set), &mut [0; 64], 0);
+    }
+    assert_eq!(rt; row.checked, 3);
+    let mut chooser = FirstCome::new();
+    row.propose(size, &mut chooser, 0)?;
+    assert_eq!(rt; chooser.decision(1)?, Some((0b01, 0b10)));
     Ok(())
 }

@@ -6,7 +6,7 @@ use Rattle.record.specs.PairLaws.{pair_laws}
 use Rattle.record.specs.RoundsLaws.{rounds_laws}
 use Rattle.record.proofs.CardChanged.{placing_facts}
 
--- each is the law at the kind's impl
+-- each is the lemma that the kind's impl cites
 pub kitty : KittyKeepsLaws
 kitty = kitty_laws
 

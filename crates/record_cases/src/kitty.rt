@@ -14,10 +14,11 @@ fn draw(amount: i16) -> Command {
 
 #[test]
 fn a_draw_needs_its_amount(rt: HostRuntime) -> Result<(), Fail> {
-    let cases: [(&[Command], &[u32]); 6] = [
+    let cases: [(&[Command], &[u32]); 7] = [
         (&[], &[0]),
         (&[pay(50), draw(50)], &[0]),
         (&[draw(50), pay(50)], &[50]),
+        (&[pay(50), draw(80)], &[50]),
         (&[pay(50), draw(51)], &[50]),
         (&[pay(30_000), pay(30_000), draw(1)], &[59_999]),
         (&[pay(50), pay(30_001), command(3, 0, 0, 5)], &[50]),

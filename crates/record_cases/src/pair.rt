@@ -45,6 +45,18 @@ fn two_sides_never_conflict(rt: HostRuntime) {
     assert!(rt; <Kitties as Record>::in_conflict(draw_left, nowhere));
 }
 
+// Subject 2 is player 1 on the left, and subject 1 the kitty on the right.
+#[test]
+fn each_side_sees_the_subject_halved(rt: HostRuntime) -> Result<(), Fail> {
+    let commands = [command(1, 2, 100, 50), command(1, 1, 0, 50)];
+    let told = after::<Pair<Rounds, Kitty>>(&commands).tell(rt.alloc())?;
+    assert!(rt; told.len() == 329);
+    assert_eq!(rt; told[0], 0);
+    assert_eq!(rt; &told[41..45], [1, 100, 10_050, 0].as_slice());
+    assert_eq!(rt; told[328], 50);
+    Ok(())
+}
+
 // Player 3 of the right is subject 7 of the pair; the book is turned by subject 1.
 #[test]
 fn a_kitty_beside_a_closing_book_over_rounds(rt: HostRuntime) -> Result<(), Fail> {
