@@ -16,19 +16,19 @@ pub struct First;
 impl Rule for First {
     ghost needs = { λ x. 1 };
 
-    ghost picks = { λ x ps. 0 };
+    ghost picks = { λ x s ps. 0 };
 
     ghost low = { λ x. omega arith };
 
     ghost high = { λ x. omega arith };
 
-    ghost within = { λ x ps h. omega arith };
+    ghost within = { λ x s ps h. omega arith };
 
     fn need(&self) -> u8 {
         1
     }
 
-    fn place(&self, _first: &[Proposal]) -> usize {
+    fn place(&self, _stage: u32, _first: &[Proposal]) -> usize {
         0
     }
 }

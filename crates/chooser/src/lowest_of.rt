@@ -42,19 +42,19 @@ fn lowest_place(proposals: &[Proposal]) -> usize
 impl Rule for Lowest {
     ghost needs = { λ x. x.need };
 
-    ghost picks = { λ x ps. lowest ps };
+    ghost picks = { λ x s ps. lowest ps };
 
     ghost low = { λ x. x.low };
 
     ghost high = { λ x. x.high };
 
-    ghost within = { λ x. lowest_within x.need x.low 0 };
+    ghost within = { λ x. lowest_within x.need x.low };
 
     fn need(&self) -> u8 {
         self.need
     }
 
-    fn place(&self, first: &[Proposal]) -> usize {
+    fn place(&self, _stage: u32, first: &[Proposal]) -> usize {
         lowest_place(first)
     }
 }

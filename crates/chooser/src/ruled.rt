@@ -29,10 +29,9 @@ impl<R: Rule> Ruled<R> {
 }
 
 impl<R: Rule> Chooser for Ruled<R> {
-    ghost meaning = { λ x. ruled (R.needs x.rule) (λ s ps. R.picks x.rule ps) (logged x.log) };
+    ghost meaning = { λ x. ruled (R.needs x.rule) (R.picks x.rule) (logged x.log) };
 
-    ghost sound = { λ x. ruled_sound (R.needs x.rule) (λ s ps. R.picks x.rule ps) (R.low x.rule) (R.high x.rule)
-        (λ s. R.within x.rule) x.log };
+    ghost sound = { λ x. ruled_sound (R.needs x.rule) (R.picks x.rule) (R.low x.rule) (R.high x.rule) (R.within x.rule) x.log };
 
     fn need(&self) -> u8 {
         self.rule.need()
@@ -48,7 +47,7 @@ impl<R: Rule> Chooser for Ruled<R> {
         let Some(first) = proposals.get(..need) else {
             return Ok(None);
         };
-        let place = self.rule.place(first);
+        let place = self.rule.place(stage, first);
         Ok(first.get(place).map(|chosen| chosen.sets()))
     }
 

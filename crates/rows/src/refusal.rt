@@ -1,5 +1,5 @@
 ghost use Rattle.std.specs.Prelude.{◌≡◌};
-ghost use Rattle.rows.specs.Refusals.{number_of};
+ghost use Rattle.rows.specs.Refusals.{number_of, chooser_number_of};
 ghost use Rattle.rows.specs.declared.refusal.Refusal.TheVariants.{Chooser};
 
 use chooser::refusal::Refusal as ChooserRefusal;
@@ -94,6 +94,16 @@ impl Refusal {
             Refusal::NobodyCrashed => 21,
             Refusal::Unplayable => 22,
             Refusal::MarkBeyondSheet => 23,
+        }
+    }
+
+    // The number of the chooser's own refusal: there is one where this refusal goes by 20, and with no other.
+    pub fn chooser_number(self) -> Option<u8>
+        ensures { result ≡ chooser_number_of self }
+    {
+        match self {
+            Refusal::Chooser(cause) => Some(cause.number()),
+            _ => None,
         }
     }
 }
