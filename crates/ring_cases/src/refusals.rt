@@ -1,8 +1,10 @@
 use crate::desk::*;
+use chooser::refusal::Refusal as ChooserRefusal;
 use record::command::Command;
 use record::kitty::Kitty;
 use record::record::Record;
 use rows::letter::Letter;
+use rows::refusal::Refusal;
 use std::test::Fail;
 
 // Calls on a ring that was never started.
@@ -109,4 +111,24 @@ fn wrong_tables(rt: HostRuntime) -> Result<(), Fail> {
     let mut tables = lend(&mut desk.tray, &mut desk.book[0..0], &mut desk.sheets);
     assert_eq!(rt; number_of(ring.receive(&mut tables, 9)), 4);
     Ok(())
+}
+
+// A refusal of the chooser goes by 20 and tells the chooser's own number; another one has no such number.
+#[test]
+fn numbers_of_a_refusal(rt: HostRuntime) {
+    let cases = [
+        (Refusal::Chooser(ChooserRefusal::NoSuchStage), 20, Some(31)),
+        (Refusal::Chooser(ChooserRefusal::NoSuchNode), 20, Some(32)),
+        (
+            Refusal::Chooser(ChooserRefusal::ProposedBefore),
+            20,
+            Some(33),
+        ),
+        (Refusal::Undecided, 19, None),
+        (Refusal::NobodyCrashed, 21, None),
+    ];
+    for (refusal, number, chooser_number) in cases {
+        assert_eq!(rt; refusal.number(), number);
+        assert_eq!(rt; refusal.chooser_number(), chooser_number);
+    }
 }

@@ -175,7 +175,10 @@ fn chooser_used(rt: HostRuntime) -> Result<(), Fail> {
         .ring
         .step::<Kitty, LowestOf>(&mut tables, &mut chooser, 0);
     assert!(rt; again == Err(Refusal::Chooser(ProposedBefore)));
-    assert_eq!(rt; ProposedBefore.number(), 33);
+    assert_eq!(rt;
+        again.err().and_then(|refusal| refusal.chooser_number()),
+        Some(33)
+    );
     Ok(())
 }
 
