@@ -1,11 +1,12 @@
-ghost use Rattle.ring.specs.World.{world_of, StillLent};
+ghost use Rattle.ring.specs.World.{world};
 ghost use Rattle.schedule.specs.Entries.{act_of};
 ghost use Rattle.replay.specs.Turns.{Turn};
 
 use chooser::chooser::Chooser;
+use record::command::Command;
 use record::record::Record;
 use ring::ring::Ring;
-use ring::tables::TablesMut;
+use rows::letter::Letter;
 use schedule::entry::Entry;
 
 // Gives one entry to the ring, and tells whether the ring accepted it.
@@ -14,15 +15,16 @@ use schedule::entry::Entry;
 #[tactic(auto, using(crate::proofs::Ways::turn_ways))]
 pub fn perform<R: Record, C: Chooser>(
     ring: &mut Ring,
-    tables: &mut TablesMut<'_>,
+    tray: &mut [Letter],
+    book: &mut [Command],
+    sheets: &mut [u8],
     chooser: &mut C,
     entry: Entry<'_>,
 ) -> bool
-    ensures lent { StillLent tables.old tables.new }
-    ensures turn { Turn R.Record.kind
-        (world_of ring.old tables.old)
+    ensures { Turn R.Record.kind
+        (world ring.old tray.old book.old sheets.old)
         (C.Chooser.meaning chooser.old) (act_of entry.entry) result
-        (world_of ring.new tables.new)
+        (world ring.new tray.new book.new sheets.new)
         (C.Chooser.meaning chooser.new) }
 {
     match entry {
@@ -30,10 +32,12 @@ pub fn perform<R: Record, C: Chooser>(
             node,
             command,
             body: _,
-        } => ring.broadcast::<R>(tables, node, command).is_ok(),
-        Entry::Receive { place } => ring.receive(tables, usize::from(place)).is_ok(),
-        Entry::Step { node } => ring.step::<R, C>(tables, chooser, node).is_ok(),
+        } => ring
+            .broadcast::<R>(tray, book, sheets, node, command)
+            .is_ok(),
+        Entry::Receive { place } => ring.receive(tray, book, sheets, usize::from(place)).is_ok(),
+        Entry::Step { node } => ring.step::<R, C>(tray, book, sheets, chooser, node).is_ok(),
         Entry::Crash { node } => ring.crash(node).is_ok(),
-        Entry::Lose { place } => ring.lose(tables, usize::from(place)).is_ok(),
+        Entry::Lose { place } => ring.lose(tray, book, sheets, usize::from(place)).is_ok(),
     }
 }

@@ -1,12 +1,13 @@
-ghost use Rattle.ring.specs.World.{world_of, StillLent};
+ghost use Rattle.ring.specs.World.{world};
 ghost use Rattle.replay.specs.WholeDay.{Days};
 
 use crate::run::run;
 use crate::tally::Tally;
 use chooser::chooser::Chooser;
+use record::command::Command;
 use record::record::Record;
 use ring::ring::Ring;
-use ring::tables::TablesMut;
+use rows::letter::Letter;
 use rows::refusal::Refusal;
 use rows::size::RingSize;
 use schedule::reader::Reader;
@@ -16,19 +17,20 @@ use schedule::reader::Reader;
 // stage of the chooser has a proposal.
 // Stays with ring, tables and chooser apart, as `run` does.
 pub fn run_day<R: Record, C: Chooser>(
+    ring: &mut Ring,
+    tray: &mut [Letter],
+    book: &mut [Command],
+    sheets: &mut [u8],
+    chooser: &mut C,
     size: RingSize,
     reader: Reader<'_>,
-    ring: &mut Ring,
-    tables: &mut TablesMut<'_>,
-    chooser: &mut C,
 ) -> Result<Tally, Refusal>
-    ensures lent { StillLent tables.old tables.new }
-    ensures days { Days R.Record.kind size reader.entry.bytes.now reader.entry.place
-        (world_of ring.old tables.old)
+    ensures { Days R.Record.kind size reader.entry.bytes.now reader.entry.place
+        (world ring.old tray.old book.old sheets.old)
         (C.Chooser.meaning chooser.old) result
-        (world_of ring.new tables.new)
+        (world ring.new tray.new book.new sheets.new)
         (C.Chooser.meaning chooser.new) }
 {
-    ring.start(size, tables, chooser)?;
-    Ok(run::<R, C>(reader, ring, tables, chooser))
+    ring.start(tray, book, sheets, chooser, size)?;
+    Ok(run::<R, C>(ring, tray, book, sheets, chooser, reader))
 }

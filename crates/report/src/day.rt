@@ -1,5 +1,5 @@
 ghost use Rattle.std.specs.Prelude.{◌≡◌, ℕ, ◌<◌, ◌++◌, IfOk, None, string_bytes};
-ghost use Rattle.ring.specs.World.{world_in};
+ghost use Rattle.ring.specs.World.{world};
 ghost use Rattle.ring.specs.Show.{show_refusal};
 ghost use Rattle.report.specs.Lines.{nodes_text, counts_text, ended};
 ghost use Rattle.report.specs.Reports.{Printed};
@@ -12,7 +12,6 @@ use record::record::Record;
 use replay::tally::Tally;
 use replay::whole_day::run_day;
 use ring::ring::Ring;
-use ring::tables::{Tables, TablesMut};
 use rows::letter::Letter;
 use rows::size::RingSize;
 use schedule::reader::Reader;
@@ -22,16 +21,18 @@ use std::alloc::{AllocError, Global};
 fn day_lines(
     heap: Global,
     ring: &Ring,
-    tables: Tables<'_, '_>,
+    tray: &[Letter],
+    book: &[Command],
+    sheets: &[u8],
     size: RingSize,
     tally: Tally,
 ) -> Result<String, AllocError>
-    requires { (node : ℕ) → node < size.n → show_refusal (world_in ring.now tables) node ≡ None }
+    requires { (node : ℕ) → node < size.n → show_refusal (world ring.now tray.now book.now sheets.now) node ≡ None }
     ensures { IfOk result (λ s. string_bytes s ≡
-        ended (nodes_text (world_in ring.now tables.entry) size.n
+        ended (nodes_text (world ring.now tray.now book.now sheets.now) size.n
         ++ counts_text tally.accepted tally.refused) tally.fault) }
 {
-    let mut text = node_lines(heap, ring, tables, size)?;
+    let mut text = node_lines(heap, ring, tray, book, sheets, size)?;
     // Stays pushed: the lines come from public functions.
     let counts = counts_line(heap, tally.accepted, tally.refused)?;
     text.push_str(counts.as_str())?;
@@ -55,14 +56,17 @@ pub fn day_text<R: Record, C: Chooser>(
     let mut tray = [Letter::default(); 1024];
     let mut book = [Command::default(); 64];
     let mut sheets = [0u8; 448];
-    let mut tables = TablesMut {
-        tray: &mut tray,
-        book: &mut book,
-        sheets: &mut sheets,
-    };
     let mut ring = Ring::new();
-    match run_day::<R, C>(size, reader, &mut ring, &mut tables, chooser) {
-        Ok(tally) => day_lines(heap, &ring, tables.view(), size, tally),
+    match run_day::<R, C>(
+        &mut ring,
+        &mut tray,
+        &mut book,
+        &mut sheets,
+        chooser,
+        size,
+        reader,
+    ) {
+        Ok(tally) => day_lines(heap, &ring, &tray, &book, &sheets, size, tally),
         Err(refusal) => start_line(heap, refusal),
     }
 }

@@ -1,10 +1,11 @@
 ghost use Rattle.std.specs.Prelude.{◌≡◌, ℕ, ◌<◌, ◌++◌, IfOk, None, codes, Some, string_bytes};
-ghost use Rattle.ring.specs.World.{world_in};
+ghost use Rattle.ring.specs.World.{world};
 ghost use Rattle.ring.specs.Show.{show_refusal};
 ghost use Rattle.report.specs.Lines.{state_text, report_text, node_text, nodes_text};
 
+use record::command::Command;
 use ring::ring::Ring;
-use ring::tables::Tables;
+use rows::letter::Letter;
 use rows::size::RingSize;
 use std::alloc::{AllocError, Global};
 use std::fmt;
@@ -45,13 +46,19 @@ impl fmt::Display for NodeReport<'_> {
 }
 
 // What is reported of a node of the ring.
-fn report_on<'s>(ring: &Ring, tables: Tables<'_, 's>, node: u8) -> NodeReport<'s>
-    requires { show_refusal (world_in ring.now tables) node ≡ None }
+fn report_on<'s>(
+    ring: &Ring,
+    tray: &[Letter],
+    book: &[Command],
+    sheets: &'s [u8],
+    node: u8,
+) -> NodeReport<'s>
+    requires { show_refusal (world ring.now tray.now book.now sheets.now) node ≡ None }
     ensures { report_text result.node result.stage result.live result.sheet.now ++ codes "\n" ≡
-        node_text (world_in ring.now tables.entry) node }
+        node_text (world ring.now tray.now book.now sheets.now) node }
 {
     match (
-        ring.show(tables, node),
+        ring.show(tray, book, sheets, node),
         ring.stage(node),
         ring.is_live(node),
     ) {
@@ -70,15 +77,17 @@ fn report_on<'s>(ring: &Ring, tables: Tables<'_, 's>, node: u8) -> NodeReport<'s
 pub(crate) fn node_lines(
     heap: Global,
     ring: &Ring,
-    tables: Tables<'_, '_>,
+    tray: &[Letter],
+    book: &[Command],
+    sheets: &[u8],
     size: RingSize,
 ) -> Result<String, AllocError>
-    requires { (node : ℕ) → node < size.n → show_refusal (world_in ring.now tables) node ≡ None }
-    ensures { IfOk result (λ s. string_bytes s ≡ nodes_text (world_in ring.now tables.entry) size.n) }
+    requires { (node : ℕ) → node < size.n → show_refusal (world ring.now tray.now book.now sheets.now) node ≡ None }
+    ensures { IfOk result (λ s. string_bytes s ≡ nodes_text (world ring.now tray.now book.now sheets.now) size.n) }
 {
     let mut text = String::new(heap);
     for node in 0..size.n {
-        writeln!(text, "{}", report_on(ring, tables, node))?;
+        writeln!(text, "{}", report_on(ring, tray, book, sheets, node))?;
     }
     Ok(text)
 }

@@ -13,8 +13,6 @@ use Rattle.rows.specs.declared.row.Row.{Row}
 use Rattle.rows.specs.declared.size.RingSize.{RingSize}
 use Rattle.ring.specs.declared.ring.Node.{Node}
 use Rattle.ring.specs.declared.ring.Ring.{Ring}
-use Rattle.ring.specs.declared.tables.Tables.{Tables}
-use Rattle.ring.specs.declared.tables.TablesMut.{TablesMut}
 
 -- The ring and the tables that are lent to its calls: the tray holds all letters ever sent, the book the command of
 -- each message, the sheets 64 bytes for each of seven nodes.
@@ -26,20 +24,6 @@ pub record World : Type 0 where
 
 abbrev pub world : Ring → List Letter → List Command → List ℕ → World
 world r tray book sheets = record { ring = r; tray = tray; book = book; sheets = sheets }
-
--- the world of a ring and of tables that are lent to be read
-abbrev pub world_in : Ring → Tables → World
-world_in r t = world r t.tray.now t.book.now t.sheets.now
-
--- the world of a ring and of tables that are lent to be written
-abbrev pub world_of : Ring → TablesMut → World
-world_of r t = world r t.tray.now t.book.now t.sheets.now
-
--- a call gives back the very tables that were lent to it
-abbrev pub StillLent : TablesMut → TablesMut → Type 0
-StillLent t u =
-    (u.tray.ghost_name ≡ t.tray.ghost_name) × (u.book.ghost_name ≡ t.book.ghost_name)
-    × (u.sheets.ghost_name ≡ t.sheets.ghost_name)
 
 -- ---- what a world has
 

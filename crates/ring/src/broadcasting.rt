@@ -1,8 +1,8 @@
-ghost use Rattle.ring.specs.World.{world_of, StillLent};
+ghost use Rattle.ring.specs.World.{world};
 ghost use Rattle.ring.specs.Broadcast.{Broadcasts};
 
 use crate::ring::Ring;
-use crate::tables::TablesMut;
+use crate::tables::check_sizes;
 use record::command::Command;
 use record::record::Record;
 use rows::letter::Letter;
@@ -16,15 +16,17 @@ impl Ring {
     // unlawful; 11 there are 64 messages; 12 fewer free places than nodes.
     pub fn broadcast<R: Record>(
         &mut self,
-        tables: &mut TablesMut<'_>,
+        tray: &mut [Letter],
+        book: &mut [Command],
+        sheets: &[u8],
         node: u8,
         command: Command,
     ) -> Result<u8, Refusal>
-        ensures lent { StillLent tables.old tables.new }
-        ensures broadcasts { Broadcasts R.Record.kind (world_of self.old tables.old) node command result
-            (world_of self.new tables.new) }
+        ensures { Broadcasts R.Record.kind
+            (world self.old tray.old book.old sheets.now) node command result
+            (world self.new tray.new book.new sheets.now) }
     {
-        tables.view().check_sizes()?;
+        check_sizes(tray, book, sheets)?;
         let size = self.with_live_node(node)?;
         if !R::is_lawful(command) {
             return Err(Refusal::UnlawfulCommand);
@@ -34,8 +36,8 @@ impl Ring {
             return Err(Refusal::BookFull);
         }
         let letter = Letter::data(node, 1u64 << message);
-        self.send(size, tables.tray, letter)?;
-        tables.book[usize::from(message)] = command;
+        self.send(tray, size, letter)?;
+        book[usize::from(message)] = command;
         self.broadcasters[usize::from(message)] = node;
         self.messages = message + 1;
         Ok(message)

@@ -1,12 +1,12 @@
 ghost use Rattle.std.specs.Prelude.{◌≡◌, true};
-ghost use Rattle.ring.specs.World.{world_in};
+ghost use Rattle.ring.specs.World.{world};
 ghost use Rattle.ring.specs.CatchUp.{all_playable, played, CatchesUp};
 
 use crate::ring::Ring;
-use crate::tables::Tables;
 use record::command::Command;
 use record::record::Record;
 use rows::conflict::command_of;
+use rows::letter::Letter;
 use rows::refusal::Refusal;
 
 // Whether each entry names a broadcast message with a lawful command.
@@ -34,23 +34,25 @@ impl Ring {
     // broadcast message, or an unlawful command.
     pub fn catch_up<R: Record>(
         &self,
+        tray: &[Letter],
+        book: &[Command],
+        sheets: &[u8],
         held: &mut R,
-        tables: Tables<'_, '_>,
         node: u8,
         mark: usize,
     ) -> Result<usize, Refusal>
         ensures { CatchesUp R.Record.kind
-            (world_in self.now tables.entry) node mark result
+            (world self.now tray.now book.now sheets.now) node mark result
             (R.Record.told held.old) (R.Record.told held.new) }
     {
-        let sheet = self.show(tables, node)?;
+        let sheet = self.show(tray, book, sheets, node)?;
         if mark > sheet.len() {
             return Err(Refusal::MarkBeyondSheet);
         }
-        if !is_playable::<R>(tables.book, self.messages, &sheet[mark..]) {
+        if !is_playable::<R>(book, self.messages, &sheet[mark..]) {
             return Err(Refusal::Unplayable);
         }
-        play(held, tables.book, self.messages, &sheet[mark..]);
+        play(held, book, self.messages, &sheet[mark..]);
         Ok(sheet.len())
     }
 }

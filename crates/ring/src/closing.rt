@@ -1,10 +1,11 @@
-ghost use Rattle.std.specs.Prelude.{◌≡◌, ◌<◌, Some};
-ghost use Rattle.ring.specs.World.{world_of, StillLent};
+ghost use Rattle.std.specs.Prelude.{◌≡◌, ℕ, ◌<◌, List, Some};
+ghost use Rattle.record.specs.declared.command.Command.{Command};
+ghost use Rattle.rows.specs.declared.letter.Letter.{Letter};
+ghost use Rattle.ring.specs.World.{world};
 ghost use Rattle.ring.specs.Close.{Proposing, Settling};
 
 use crate::ring::Ring;
 use crate::step::Step;
-use crate::tables::TablesMut;
 use chooser::chooser::Chooser;
 use rows::refusal::Refusal;
 use rows::size::RingSize;
@@ -16,18 +17,16 @@ impl Ring {
     // chooser refuses.
     pub(crate) fn propose<C: Chooser>(
         &mut self,
-        size: RingSize,
-        tables: &mut TablesMut<'_>,
         chooser: &mut C,
+        size: RingSize,
         node: u8,
     ) -> Result<Step, Refusal>
         requires started { self.old.size ≡ Some size }
         requires inside { node < 7 }
-        ensures lent { StillLent tables.old tables.new }
-        ensures proposing { Proposing
-            (world_of self.old tables.old)
+        ensures { (tray : List Letter) (book : List Command) (sheets : List ℕ) → Proposing
+            (world self.old tray book sheets)
             (C.Chooser.meaning chooser.old) node result
-            (world_of self.new tables.new)
+            (world self.new tray book sheets)
             (C.Chooser.meaning chooser.new) }
     {
         self.nodes[usize::from(node)]
@@ -40,21 +39,20 @@ impl Ring {
     // refuses; 19 the stage is undecided.
     pub(crate) fn settle<C: Chooser>(
         &mut self,
-        tables: &mut TablesMut<'_>,
+        sheets: &mut [u8],
         chooser: &mut C,
         node: u8,
     ) -> Result<Step, Refusal>
         requires inside { node < 7 }
-        ensures lent { StillLent tables.old tables.new }
-        ensures settling { Settling
-            (world_of self.old tables.old)
+        ensures { (tray : List Letter) (book : List Command) → Settling
+            (world self.old tray book sheets.old)
             (C.Chooser.meaning chooser.old) node result
-            (world_of self.new tables.new)
+            (world self.new tray book sheets.new)
             (C.Chooser.meaning chooser.new) }
     {
         self.nodes[usize::from(node)]
             .row
-            .settle(chooser, tables.sheets, node)?;
+            .settle(chooser, sheets, node)?;
         Ok(Step::Settled)
     }
 }

@@ -1,9 +1,9 @@
-ghost use Rattle.ring.specs.World.{world_of, StillLent};
+ghost use Rattle.ring.specs.World.{world};
 ghost use Rattle.ring.specs.Fail.{Crashes, Loses};
 
 use crate::ring::Ring;
-use crate::tables::TablesMut;
-use rows::letter::Mark;
+use record::command::Command;
+use rows::letter::{Letter, Mark};
 use rows::refusal::Refusal;
 
 impl Ring {
@@ -19,19 +19,24 @@ impl Ring {
     // Loses a letter of a crashed sender, or to a crashed receiver. Refused: 4 a table has the wrong size; 7 never
     // started; 13 the place is not yet used or beyond the tray; 14 the letter does not travel; 15 it is spoilt; 21
     // neither its sender nor its receiver has crashed.
-    pub fn lose(&mut self, tables: &mut TablesMut<'_>, place: usize) -> Result<(), Refusal>
-        ensures lent { StillLent tables.old tables.new }
-        ensures loses { Loses
-            (world_of self.old tables.old) place result
-            (world_of self.new tables.new) }
+    pub fn lose(
+        &mut self,
+        tray: &mut [Letter],
+        book: &[Command],
+        sheets: &[u8],
+        place: usize,
+    ) -> Result<(), Refusal>
+        ensures { Loses
+            (world self.old tray.old book.now sheets.now) place result
+            (world self.new tray.new book.now sheets.now) }
     {
-        let (_, letter) = self.examine(tables.view(), place)?;
+        let (_, letter) = self.examine(tray, book, sheets, place)?;
         if !self.nodes[usize::from(letter.sender)].crashed
             && !self.nodes[usize::from(letter.receiver)].crashed
         {
             return Err(Refusal::NobodyCrashed);
         }
-        tables.tray[place].mark = Mark::Lost.into();
+        tray[place].mark = Mark::Lost.into();
         Ok(())
     }
 }

@@ -1,10 +1,10 @@
-ghost use Rattle.std.specs.Prelude.{◌≡◌, ◌<◌, Some};
-ghost use Rattle.ring.specs.World.{world_of, StillLent};
+ghost use Rattle.std.specs.Prelude.{◌≡◌, ℕ, ◌<◌, List, Some};
+ghost use Rattle.ring.specs.World.{world};
 ghost use Rattle.ring.specs.Gather.{Gathers};
 
 use crate::ring::Ring;
 use crate::step::Step;
-use crate::tables::TablesMut;
+use record::command::Command;
 use record::record::Record;
 use rows::conflict::find_conflict;
 use rows::letter::Letter;
@@ -20,32 +20,32 @@ impl Ring {
     // than nodes.
     pub(crate) fn gather<R: Record>(
         &mut self,
+        tray: &mut [Letter],
+        book: &[Command],
         size: RingSize,
-        tables: &mut TablesMut<'_>,
         node: u8,
     ) -> Result<Step, Refusal>
         requires started { self.old.size ≡ Some size }
         requires inside { node < size.n }
-        ensures lent { StillLent tables.old tables.new }
-        ensures gathers { Gathers R.Record.kind.conflicts
-            (world_of self.old tables.old) node result
-            (world_of self.new tables.new) }
+        ensures { (sheets : List ℕ) → Gathers R.Record.kind.conflicts
+            (world self.old tray.old book.now sheets) node result
+            (world self.new tray.new book.now sheets) }
     {
         let row = self.nodes[usize::from(node)].row;
         let undelivered = row.undelivered();
         if undelivered & !row.pending == 0 {
             return Err(Refusal::NothingNew);
         }
-        match find_conflict::<R>(tables.view().book, undelivered) {
+        match find_conflict::<R>(book, undelivered) {
             None => {
                 let acknowledgement = Letter::acknowledgement(node, row.stage, undelivered);
-                self.send(size, tables.tray, acknowledgement)?;
+                self.send(tray, size, acknowledgement)?;
                 self.nodes[usize::from(node)].row.acknowledge();
                 Ok(Step::Acknowledged)
             }
             Some((a, b)) => {
                 let check = Letter::check(node, row.stage, row.pending);
-                self.send(size, tables.tray, check)?;
+                self.send(tray, size, check)?;
                 self.nodes[usize::from(node)].row.close();
                 Ok(Step::Closed(a, b))
             }

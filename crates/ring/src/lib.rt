@@ -17,4 +17,4 @@ pub mod showing;
 pub mod starting;
 pub mod step;
 pub mod stepping;
-pub mod tables;
+mod tables;

@@ -13,8 +13,8 @@ impl Ring {
     // Refused: 12 fewer free places than nodes.
     pub(crate) fn send(
         &mut self,
-        size: RingSize,
         tray: &mut [Letter],
+        size: RingSize,
         letter: Letter,
     ) -> Result<(), Refusal>
         ensures letters { Sends tray.old self.old.used size.n letter result tray.new }

@@ -1,9 +1,10 @@
 ghost use Rattle.std.specs.Prelude.{◌≡◌, ◌<◌, Some};
-ghost use Rattle.ring.specs.World.{world_in, world_of, StillLent, Examined};
+ghost use Rattle.ring.specs.World.{world, Examined};
 ghost use Rattle.ring.specs.Receive.{Relays, Receives};
 
 use crate::ring::Ring;
-use crate::tables::{Tables, TablesMut};
+use crate::tables::check_sizes;
+use record::command::Command;
 use rows::letter::{Letter, Mark};
 use rows::refusal::Refusal;
 use rows::size::RingSize;
@@ -14,17 +15,19 @@ impl Ring {
     // is spoilt.
     pub(crate) fn examine(
         &self,
-        tables: Tables<'_, '_>,
+        tray: &[Letter],
+        book: &[Command],
+        sheets: &[u8],
         place: usize,
     ) -> Result<(RingSize, Letter), Refusal>
-        ensures { Examined (world_in self.now tables.entry) place result }
+        ensures { Examined (world self.now tray.now book.now sheets.now) place result }
     {
-        tables.check_sizes()?;
+        check_sizes(tray, book, sheets)?;
         let size = self.size.ok_or(Refusal::NotStarted)?;
-        if place >= self.used || place >= tables.tray.len() {
+        if place >= self.used || place >= tray.len() {
             return Err(Refusal::PlaceUnused);
         }
-        let letter = tables.tray[place];
+        let letter = tray[place];
         if letter.mark != u8::from(Mark::Travelling) {
             return Err(Refusal::NotTravelling);
         }
@@ -37,7 +40,7 @@ impl Ring {
     // Stays with the fact on the size, as the step of a gathering node does.
 
     // Relays a letter in the name of its receiver, if that has to. Refused: 12 fewer free places than nodes.
-    fn relay(&mut self, size: RingSize, tray: &mut [Letter], letter: Letter) -> Result<(), Refusal>
+    fn relay(&mut self, tray: &mut [Letter], size: RingSize, letter: Letter) -> Result<(), Refusal>
         requires started { self.old.size ≡ Some size }
         requires inside { letter.receiver < size.n }
         ensures { Relays self.old tray.old letter result self.new tray.new }
@@ -46,7 +49,7 @@ impl Ring {
         if !row.must_relay(&self.broadcasters, letter) {
             return Ok(());
         }
-        self.send(size, tray, Letter::data(letter.receiver, letter.set))?;
+        self.send(tray, size, Letter::data(letter.receiver, letter.set))?;
         Ok(())
     }
 
@@ -54,13 +57,18 @@ impl Ring {
     // broadcast. Refused: 4 a table has the wrong size; 7 never started; 13 the place is not yet used or beyond the
     // tray; 14 the letter does not travel; 15 it is spoilt; 9 the receiver has crashed; 16 the letter's stage is later
     // than the receiver's; 12 it must relay and there are fewer free places than nodes.
-    pub fn receive(&mut self, tables: &mut TablesMut<'_>, place: usize) -> Result<(), Refusal>
-        ensures lent { StillLent tables.old tables.new }
-        ensures receives { Receives
-            (world_of self.old tables.old) place result
-            (world_of self.new tables.new) }
+    pub fn receive(
+        &mut self,
+        tray: &mut [Letter],
+        book: &[Command],
+        sheets: &mut [u8],
+        place: usize,
+    ) -> Result<(), Refusal>
+        ensures { Receives
+            (world self.old tray.old book.now sheets.old) place result
+            (world self.new tray.new book.now sheets.new) }
     {
-        let (size, letter) = self.examine(tables.view(), place)?;
+        let (size, letter) = self.examine(tray, book, sheets, place)?;
         let receiver = usize::from(letter.receiver);
         if self.nodes[receiver].crashed {
             return Err(Refusal::NodeCrashed);
@@ -68,14 +76,14 @@ impl Ring {
         if letter.stage > self.nodes[receiver].row.stage {
             return Err(Refusal::LaterStage);
         }
-        self.relay(size, tables.tray, letter)?;
-        tables.tray[place] = Letter {
+        self.relay(tray, size, letter)?;
+        tray[place] = Letter {
             mark: Mark::Taken.into(),
             ..letter
         };
         self.nodes[receiver]
             .row
-            .take(size, letter, tables.sheets, letter.receiver);
+            .take(size, letter, sheets, letter.receiver);
         Ok(())
     }
 }

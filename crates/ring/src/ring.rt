@@ -12,8 +12,8 @@ pub(crate) struct Node {
     pub(crate) crashed: bool,
 }
 
-// A ring: what its calls keep from one to the next. The letters, the commands and the sheets stand in the tables that
-// the caller lends to each call.
+// A ring: what its calls keep from one to the next. All else stands in the tables that the caller lends to each call: the
+// tray of all letters ever sent, the book of the commands of all messages, and the sheets of the nodes.
 #[derive(Drop)]
 pub struct Ring {
     // none before the first start

@@ -1,10 +1,12 @@
 ghost use Rattle.std.specs.Prelude.{◌≡◌, ◌*◌, ◌<◌, length, take, drop, count_ones};
 ghost use Rattle.rows.specs.Rows.{on_sheet};
-ghost use Rattle.ring.specs.World.{world_in};
+ghost use Rattle.ring.specs.World.{world};
 ghost use Rattle.ring.specs.Show.{Shows};
 
 use crate::ring::Ring;
-use crate::tables::Tables;
+use crate::tables::check_sizes;
+use record::command::Command;
+use rows::letter::Letter;
 use rows::refusal::Refusal;
 use rows::row::Row;
 
@@ -22,12 +24,18 @@ fn used_part<'a>(row: &Row, sheets: &'a [u8], node: u8) -> &'a [u8]
 impl Ring {
     // The numbers of the messages that a node delivered, in order: that part of the sheets itself. Refused: 4 a table
     // has the wrong size; 7 never started; 8 no such node.
-    pub fn show<'s>(&self, tables: Tables<'_, 's>, node: u8) -> Result<&'s [u8], Refusal>
+    pub fn show<'s>(
+        &self,
+        tray: &[Letter],
+        book: &[Command],
+        sheets: &'s [u8],
+        node: u8,
+    ) -> Result<&'s [u8], Refusal>
         ensures { Shows (λ s. s.now)
-            (world_in self.now tables.entry) node result }
+            (world self.now tray.now book.now sheets.now) node result }
     {
-        tables.check_sizes()?;
+        check_sizes(tray, book, sheets)?;
         self.with_node(node)?;
-        Ok(used_part(&self.nodes[usize::from(node)].row, tables.sheets, node))
+        Ok(used_part(&self.nodes[usize::from(node)].row, sheets, node))
     }
 }

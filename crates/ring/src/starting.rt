@@ -1,11 +1,11 @@
 ghost use Rattle.std.specs.Prelude.{◌≡◌, ◌≤◌, not, length, replicate, ◌==◌};
-ghost use Rattle.ring.specs.World.{world_of, StillLent};
+ghost use Rattle.ring.specs.World.{world};
 ghost use Rattle.ring.specs.Start.{is_used, in_use, Starts};
 ghost use Rattle.ring.specs.Following.{EveryRecordFollows};
 ghost use Rattle.ring.specs.Theorem.{EveryDayKeeps};
 
 use crate::ring::Ring;
-use crate::tables::TablesMut;
+use crate::tables::check_sizes;
 use chooser::chooser::Chooser;
 use record::command::Command;
 use rows::letter::Letter;
@@ -34,32 +34,33 @@ impl Ring {
     // follow, every promise of a day is kept at every point of it (the theorem), and records follow nodes in parts.
     pub fn start<C: Chooser>(
         &mut self,
-        size: RingSize,
-        tables: &mut TablesMut<'_>,
+        tray: &mut [Letter],
+        book: &mut [Command],
+        sheets: &mut [u8],
         chooser: &C,
+        size: RingSize,
     ) -> Result<(), Refusal>
-        ensures lent { StillLent tables.old tables.new }
         ensures start { Starts size
-            (world_of self.old tables.old)
+            (world self.old tray.old book.old sheets.old)
             (C.Chooser.meaning chooser.now) result
-            (world_of self.new tables.new) }
+            (world self.new tray.new book.new sheets.new) }
         ensures days { EveryDayKeeps size result
-            (world_of self.new tables.new)
+            (world self.new tray.new book.new sheets.new)
             (C.Chooser.meaning chooser.now) }
         ensures follows { EveryRecordFollows size result
             (world_of self.new tables.new)
             (C.Chooser.meaning chooser.now) }
     {
-        tables.view().check_sizes()?;
+        check_sizes(tray, book, sheets)?;
         if chooser.need() > size.q {
             return Err(Refusal::NeedAboveQuorum);
         }
         if is_in_use(chooser) {
             return Err(Refusal::ChooserInUse);
         }
-        tables.tray.fill(Letter::default());
-        tables.book.fill(Command::default());
-        tables.sheets.fill(0);
+        tray.fill(Letter::default());
+        book.fill(Command::default());
+        sheets.fill(0);
         *self = Ring::of_size(size);
         Ok(())
     }

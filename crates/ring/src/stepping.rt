@@ -1,13 +1,15 @@
 ghost use Rattle.std.specs.Prelude.{◌≡◌};
 ghost use Rattle.chooser.specs.Meaning.{Sound};
-ghost use Rattle.ring.specs.World.{world_of, StillLent};
+ghost use Rattle.ring.specs.World.{world};
 ghost use Rattle.ring.specs.Step.{Steps};
 
 use crate::ring::Ring;
 use crate::step::Step;
-use crate::tables::TablesMut;
+use crate::tables::check_sizes;
 use chooser::chooser::Chooser;
+use record::command::Command;
 use record::record::Record;
+use rows::letter::Letter;
 use rows::refusal::Refusal;
 use rows::row::Phase;
 
@@ -18,25 +20,26 @@ impl Ring {
     // nodes; closing, 18 fewer checks than q, 20 the chooser refuses; having proposed, 20, 19 undecided.
     pub fn step<R: Record, C: Chooser>(
         &mut self,
-        tables: &mut TablesMut<'_>,
+        tray: &mut [Letter],
+        book: &[Command],
+        sheets: &mut [u8],
         chooser: &mut C,
         node: u8,
     ) -> Result<Step, Refusal>
-        ensures lent { StillLent tables.old tables.new }
         ensures sound { Sound (C.Chooser.meaning chooser.new) }
         ensures step { Steps R.Record.kind
-            (world_of self.old tables.old)
+            (world self.old tray.old book.now sheets.old)
             (C.Chooser.meaning chooser.old) node result
-            (world_of self.new tables.new)
+            (world self.new tray.new book.now sheets.new)
             (C.Chooser.meaning chooser.new) }
     {
-        tables.view().check_sizes()?;
+        check_sizes(tray, book, sheets)?;
         let size = self.with_live_node(node)?;
         // Stays a match: the phase is data, and each of the three steps takes other parameters.
         match self.nodes[usize::from(node)].row.phase {
-            Phase::Gathering => self.gather::<R>(size, tables, node),
-            Phase::Closing => self.propose(size, tables, chooser, node),
-            Phase::Waiting => self.settle(tables, chooser, node),
+            Phase::Gathering => self.gather::<R>(tray, book, size, node),
+            Phase::Closing => self.propose(chooser, size, node),
+            Phase::Waiting => self.settle(sheets, chooser, node),
         }
     }
 }

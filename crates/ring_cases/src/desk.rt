@@ -1,12 +1,9 @@
-ghost use Rattle.std.specs.Prelude.{◌≡◌};
-
 use chooser::chooser::Chooser;
 use chooser::first_come::FirstCome;
 use record::command::Command;
 use record::kitty::Kitty;
 use record::record::Record;
 use ring::ring::Ring;
-use ring::tables::{Tables, TablesMut};
 use rows::letter::Letter;
 use rows::refusal::Refusal;
 use rows::size::RingSize;
@@ -56,19 +53,6 @@ pub(crate) const UNLAWFUL: Command = Command {
     amount: 1,
 };
 
-// Tables that are lent to a call.
-pub(crate) fn lend<'a>(
-    tray: &'a mut [Letter],
-    book: &'a mut [Command],
-    sheets: &'a mut [u8],
-) -> TablesMut<'a>
-    ensures tray { result.tray ≡ tray.entry }
-    ensures book { result.book ≡ book.entry }
-    ensures sheets { result.sheets ≡ sheets.entry }
-{
-    TablesMut { tray, book, sheets }
-}
-
 // The number of a refusal, and 0 for an accepted call.
 // Stays a number: the tables of calls and numbers read 0 for an accepted call.
 pub(crate) fn number_of<T: Drop>(answer: Result<T, Refusal>) -> u8 {
@@ -99,39 +83,51 @@ impl Desk {
     }
 
     pub(crate) fn start(&mut self, size: RingSize) -> Result<(), Refusal> {
-        let mut tables = lend(&mut self.tray, &mut self.book, &mut self.sheets);
-        self.ring.start(size, &mut tables, &self.chooser)
+        self.ring.start(
+            &mut self.tray,
+            &mut self.book,
+            &mut self.sheets,
+            &self.chooser,
+            size,
+        )
     }
 
     // Makes the call, and answers its number.
     pub(crate) fn call(&mut self, call: Call) -> u8 {
-        let mut tables = lend(&mut self.tray, &mut self.book, &mut self.sheets);
-        let ring = &mut self.ring;
+        let Desk {
+            ring,
+            tray,
+            book,
+            sheets,
+            chooser,
+        } = self;
         match call {
             Call::Broadcast(node, command) => {
-                number_of(ring.broadcast::<Kitty>(&mut tables, node, command))
+                number_of(ring.broadcast::<Kitty>(tray, book, sheets, node, command))
             }
-            Call::Receive(place) => number_of(ring.receive(&mut tables, place)),
-            Call::Step(node) => {
-                number_of(ring.step::<Kitty, FirstCome>(&mut tables, &mut self.chooser, node))
-            }
+            Call::Receive(place) => number_of(ring.receive(tray, book, sheets, place)),
+            Call::Step(node) => number_of(ring.step::<Kitty, FirstCome>(
+                tray, book, sheets, chooser, node,
+            )),
             Call::Crash(node) => number_of(ring.crash(node)),
-            Call::Lose(place) => number_of(ring.lose(&mut tables, place)),
-        }
-    }
-
-    // The tables, to be read.
-    pub(crate) fn tables(&self) -> Tables<'_, '_> {
-        Tables {
-            tray: &self.tray,
-            book: &self.book,
-            sheets: &self.sheets,
+            Call::Lose(place) => number_of(ring.lose(tray, book, sheets, place)),
         }
     }
 
     // The messages that a node delivered.
     pub(crate) fn sheet(&self, node: u8) -> Result<&[u8], Refusal> {
-        self.ring.show(self.tables(), node)
+        self.ring.show(&self.tray, &self.book, &self.sheets, node)
+    }
+
+    // Brings a record up to date with a node's sheet.
+    pub(crate) fn catch_up<R: Record>(
+        &self,
+        held: &mut R,
+        node: u8,
+        mark: usize,
+    ) -> Result<usize, Refusal> {
+        self.ring
+            .catch_up(&self.tray, &self.book, &self.sheets, held, node, mark)
     }
 }
 

@@ -11,18 +11,17 @@ fn tables_first(rt: HostRuntime) {
     let mut desk = Desk::new();
     let mut kitty = Kitty::new();
     let ring = &mut desk.ring;
-    let mut short = lend(&mut desk.tray, &mut desk.book[0..63], &mut desk.sheets);
-    assert_eq!(rt; number_of(ring.broadcast::<Kitty>(&mut short, 0, PAY)), 4);
-    assert_eq!(rt; number_of(ring.receive(&mut short, 0)), 4);
-    let step = ring.step::<Kitty, FirstCome>(&mut short, &mut desk.chooser, 0);
+    let (tray, short, sheets) = (&mut desk.tray, &mut desk.book[0..63], &mut desk.sheets);
+    let broadcast = ring.broadcast::<Kitty>(tray, short, sheets, 0, PAY);
+    assert_eq!(rt; number_of(broadcast), 4);
+    assert_eq!(rt; number_of(ring.receive(tray, short, sheets, 0)), 4);
+    let step = ring.step::<Kitty, FirstCome>(tray, short, sheets, &mut desk.chooser, 0);
     assert_eq!(rt; number_of(step), 4);
-    assert_eq!(rt; number_of(ring.lose(&mut short, 0)), 4);
-    assert_eq!(rt; number_of(ring.show(short.view(), 0)), 4);
-    assert_eq!(rt; number_of(ring.catch_up(&mut kitty, short.view(), 0, 1)), 4);
-    assert_eq!(rt;
-        number_of(desk.ring.catch_up(&mut kitty, desk.tables(), 0, 1)),
-        7
-    );
+    assert_eq!(rt; number_of(ring.lose(tray, short, sheets, 0)), 4);
+    assert_eq!(rt; number_of(ring.show(tray, short, sheets, 0)), 4);
+    let caught = ring.catch_up(tray, short, sheets, &mut kitty, 0, 1);
+    assert_eq!(rt; number_of(caught), 4);
+    assert_eq!(rt; number_of(desk.catch_up(&mut kitty, 0, 1)), 7);
 }
 
 // Letters that stand at place 0 of a ring of two with one message, whose node 1 has crashed: the number of a loss and

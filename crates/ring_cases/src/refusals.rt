@@ -75,8 +75,10 @@ fn full_tray(rt: HostRuntime) -> Result<(), Fail> {
 
 // The number of one more broadcast, with a tray of its own.
 fn broadcast_into(desk: &mut Desk, tray: &mut [Letter; 64], command: Command) -> u8 {
-    let mut tables = lend(tray, &mut desk.book, &mut desk.sheets);
-    number_of(desk.ring.broadcast::<Kitty>(&mut tables, 0, command))
+    number_of(
+        desk.ring
+            .broadcast::<Kitty>(tray, &mut desk.book, &desk.sheets, 0, command),
+    )
 }
 
 // The sixty-fifth message is refused before the tray is looked at, and an unlawful command before both.
@@ -97,19 +99,16 @@ fn full_book(rt: HostRuntime) -> Result<(), Fail> {
 fn wrong_tables(rt: HostRuntime) -> Result<(), Fail> {
     let mut desk = Desk::started(1, 1)?;
     let ring = &mut desk.ring;
-    let mut short = lend(&mut desk.tray, &mut desk.book, &mut desk.sheets[0..447]);
-    assert_eq!(rt; number_of(ring.receive(&mut short, 9)), 4);
-    assert_eq!(rt; number_of(ring.lose(&mut short, 9)), 4);
-    assert_eq!(rt;
-        number_of(ring.broadcast::<Kitty>(&mut short, 9, UNLAWFUL)),
-        4
-    );
-    assert_eq!(rt; number_of(ring.show(short.view(), 9)), 4);
+    let (tray, book, short) = (&mut desk.tray, &mut desk.book, &mut desk.sheets[0..447]);
+    assert_eq!(rt; number_of(ring.receive(tray, book, short, 9)), 4);
+    assert_eq!(rt; number_of(ring.lose(tray, book, short, 9)), 4);
+    let broadcast = ring.broadcast::<Kitty>(tray, book, short, 9, UNLAWFUL);
+    assert_eq!(rt; number_of(broadcast), 4);
+    assert_eq!(rt; number_of(ring.show(tray, book, short, 9)), 4);
+    let sheets = &mut desk.sheets;
     let mut long = [Letter::default(); 4097];
-    let mut tables = lend(&mut long, &mut desk.book, &mut desk.sheets);
-    assert_eq!(rt; number_of(ring.receive(&mut tables, 9)), 4);
-    let mut tables = lend(&mut desk.tray, &mut desk.book[0..0], &mut desk.sheets);
-    assert_eq!(rt; number_of(ring.receive(&mut tables, 9)), 4);
+    assert_eq!(rt; number_of(ring.receive(&mut long, book, sheets, 9)), 4);
+    assert_eq!(rt; number_of(ring.receive(tray, &book[0..0], sheets, 9)), 4);
     Ok(())
 }
 

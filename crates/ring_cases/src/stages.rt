@@ -40,9 +40,13 @@ fn early(rt: HostRuntime) -> Result<(), Fail> {
 
 // What a step of the only node answers.
 fn step(desk: &mut Desk) -> Result<Step, Refusal> {
-    let mut tables = lend(&mut desk.tray, &mut desk.book, &mut desk.sheets);
-    desk.ring
-        .step::<Kitty, FirstCome>(&mut tables, &mut desk.chooser, 0)
+    desk.ring.step::<Kitty, FirstCome>(
+        &mut desk.tray,
+        &desk.book,
+        &mut desk.sheets,
+        &mut desk.chooser,
+        0,
+    )
 }
 
 // Two conflicting messages close the stage of a ring of one, and the decision settles it.
@@ -115,8 +119,9 @@ fn acknowledged_while_closing(rt: HostRuntime) -> Result<(), Fail> {
 // Two nodes that both received two conflicting messages and closed their stage, and keep no check yet.
 fn both_closed(rt: &impl Abort, chooser: &mut LowestOf) -> Result<Desk, Fail> {
     let mut desk = Desk::new();
-    let mut tables = lend(&mut desk.tray, &mut desk.book, &mut desk.sheets);
-    desk.ring.start(RingSize::new(2, 2)?, &mut tables, chooser)?;
+    let size = RingSize::new(2, 2)?;
+    let (tray, book, sheets) = (&mut desk.tray, &mut desk.book, &mut desk.sheets);
+    desk.ring.start(tray, book, sheets, chooser, size)?;
     let calls = [
         Call::Broadcast(0, PAY),
         Call::Broadcast(0, DRAW),
@@ -131,13 +136,14 @@ fn both_closed(rt: &impl Abort, chooser: &mut LowestOf) -> Result<Desk, Fail> {
     Ok(desk)
 }
 
-// The number of a step with a chooser of its own.
+// What a step with a chooser of its own answers.
+fn stepped_with(desk: &mut Desk, chooser: &mut LowestOf, node: u8) -> Result<Step, Refusal> {
+    desk.ring.step::<Kitty, LowestOf>(&mut desk.tray, &desk.book, &mut desk.sheets, chooser, node)
+}
+
+// Its number.
 fn step_with(desk: &mut Desk, chooser: &mut LowestOf, node: u8) -> u8 {
-    let mut tables = lend(&mut desk.tray, &mut desk.book, &mut desk.sheets);
-    number_of(
-        desk.ring
-            .step::<Kitty, LowestOf>(&mut tables, chooser, node),
-    )
+    number_of(stepped_with(desk, chooser, node))
 }
 
 // A node waits for two checks before it proposes, and then for the other's proposal, since the chooser needs both.
@@ -170,10 +176,7 @@ fn chooser_used(rt: HostRuntime) -> Result<(), Fail> {
     assert_eq!(rt; desk.call(Call::Receive(10)), 0);
     assert_eq!(rt; step_with(&mut desk, &mut chooser, 0), 20);
     assert_eq!(rt; chooser.count(1)?, 1);
-    let mut tables = lend(&mut desk.tray, &mut desk.book, &mut desk.sheets);
-    let again = desk
-        .ring
-        .step::<Kitty, LowestOf>(&mut tables, &mut chooser, 0);
+    let again = stepped_with(&mut desk, &mut chooser, 0);
     assert!(rt; again == Err(Refusal::Chooser(ProposedBefore)));
     assert_eq!(rt;
         again.err().and_then(|refusal| refusal.chooser_number()),

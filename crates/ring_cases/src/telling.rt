@@ -2,7 +2,6 @@ use crate::desk::*;
 use record::kitty::Kitty;
 use record::record::Record;
 use record::rounds::Rounds;
-use ring::tables::Tables;
 use std::process::Abort;
 use std::test::Fail;
 
@@ -28,18 +27,18 @@ fn delivered(rt: &impl Abort) -> Result<Desk, Fail> {
 fn catches_up(rt: HostRuntime) -> Result<(), Fail> {
     let desk = delivered(&rt)?;
     let mut kitty = Kitty::new();
-    assert_eq!(rt; desk.ring.catch_up(&mut kitty, desk.tables(), 0, 1)?, 2);
+    assert_eq!(rt; desk.catch_up(&mut kitty, 0, 1)?, 2);
     assert_eq!(rt; kitty.tell(rt.alloc())?.as_slice(), [50].as_slice());
-    assert_eq!(rt; desk.ring.catch_up(&mut kitty, desk.tables(), 0, 2)?, 2);
+    assert_eq!(rt; desk.catch_up(&mut kitty, 0, 2)?, 2);
     assert_eq!(rt; kitty.tell(rt.alloc())?.as_slice(), [50].as_slice());
-    assert_eq!(rt; desk.ring.catch_up(&mut kitty, desk.tables(), 0, 0)?, 2);
+    assert_eq!(rt; desk.catch_up(&mut kitty, 0, 0)?, 2);
     assert_eq!(rt; kitty.tell(rt.alloc())?.as_slice(), [150].as_slice());
     Ok(())
 }
 
 // The number of catching a kitty up with node 0.
 fn caught(desk: &Desk, kitty: &mut Kitty, mark: usize) -> u8 {
-    number_of(desk.ring.catch_up(kitty, desk.tables(), 0, mark))
+    number_of(desk.catch_up(kitty, 0, mark))
 }
 
 // The causes of catching up in their order; a refused one leaves the record.
@@ -47,15 +46,9 @@ fn caught(desk: &Desk, kitty: &mut Kitty, mark: usize) -> u8 {
 fn cannot_catch_up(rt: HostRuntime) -> Result<(), Fail> {
     let mut desk = delivered(&rt)?;
     let mut kitty = Kitty::new();
-    let no_tray = Tables {
-        tray: &desk.tray[0..0],
-        ..desk.tables()
-    };
-    assert_eq!(rt; number_of(desk.ring.catch_up(&mut kitty, no_tray, 1, 9)), 4);
-    assert_eq!(rt;
-        number_of(desk.ring.catch_up(&mut kitty, desk.tables(), 1, 9),),
-        8
-    );
+    let no_tray = desk.ring.catch_up(&desk.tray[0..0], &desk.book, &desk.sheets, &mut kitty, 1, 9);
+    assert_eq!(rt; number_of(no_tray), 4);
+    assert_eq!(rt; number_of(desk.catch_up(&mut kitty, 1, 9)), 8);
     desk.sheets[1] = 2;
     assert_eq!(rt; caught(&desk, &mut kitty, 3), 23);
     assert_eq!(rt; caught(&desk, &mut kitty, 0), 22);
@@ -72,6 +65,6 @@ fn cannot_catch_up(rt: HostRuntime) -> Result<(), Fail> {
 fn another_kind(rt: HostRuntime) -> Result<(), Fail> {
     let desk = delivered(&rt)?;
     let mut rounds = Rounds::new();
-    assert_eq!(rt; desk.ring.catch_up(&mut rounds, desk.tables(), 0, 0)?, 2);
+    assert_eq!(rt; desk.catch_up(&mut rounds, 0, 0)?, 2);
     Ok(())
 }

@@ -1,5 +1,5 @@
 use Rattle.std.proofs.Common.{◌≡◌, ◌+◌, ◌≤◌, None}
-use Rattle.ring.specs.World.{world_of, StillLent}
+use Rattle.ring.specs.World.{world}
 use Rattle.replay.specs.Runs.{Walk}
 use Rattle.replay.proofs.run.run.Given as goal
 
@@ -7,9 +7,8 @@ use Rattle.replay.proofs.run.run.Given as goal
 abbrev pub invariant-loop-read : goal.invariant-loop-read
 invariant-loop-read g l =
     (l.read-iterator.reader.bytes ≡ l.reader.bytes) × (l.tally.accepted + l.tally.refused ≤ l.read-iterator.reader.place)
-    × StillLent l.initial.tables l.tables
     × Walk g.R.Record.kind l.reader.bytes.now l.reader.place
-    (world_of l.initial.ring l.initial.tables) (g.C.Chooser.meaning l.initial.chooser)
-    l.read-iterator.reader.place (world_of l.ring l.tables) (g.C.Chooser.meaning l.chooser) l.tally.accepted
+    (world l.initial.ring l.initial.tray l.initial.book l.initial.sheets) (g.C.Chooser.meaning l.initial.chooser)
+    l.read-iterator.reader.place (world l.ring l.tray l.book l.sheets) (g.C.Chooser.meaning l.chooser) l.tally.accepted
     l.tally.refused
     × (l.tally.fault ≡ None)

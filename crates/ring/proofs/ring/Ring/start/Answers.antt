@@ -1,6 +1,6 @@
 use Rattle.std.proofs.Common.{Ok, rules}
 use Rattle.chooser.specs.Meaning.{Meaning}
-use Rattle.ring.specs.World.{World, world, world_of}
+use Rattle.ring.specs.World.{World, world}
 use Rattle.ring.specs.Start.{Starts}
 use Rattle.ring.proofs.DayJoined.{every_day_keeps}
 use Rattle.ring.proofs.Followed.{every_record_follows}
@@ -8,7 +8,7 @@ use Rattle.ring.proofs.ring.Ring.start.Goals as goal
 
 pub returns-clause-days : goal.returns-clause-days
 returns-clause-days g c =
-    let u : World = world_of c.args.self.now c.args.tables.now in
+    let u : World = world c.args.self.now c.args.tray.now c.args.book.now c.args.sheets.now in
     let v : World = world c.of_size.result c.fill.new.self c.fill-2.new.self c.fill-3.new.self in
     let M : Meaning = g.C.Chooser.meaning c.args.chooser.now in
     let s : Starts c.args.size u M (Ok tt) v = search rules in
