@@ -16,6 +16,7 @@ use Rattle.node.specs.declared.gathering_node.Gathering.{Gathering}
 use Rattle.node.specs.declared.closing_node.Closing.{Closing}
 use Rattle.node.specs.declared.handover.Closed.{Closed}
 use Rattle.node.specs.declared.handover.Refused.{Refused}
+use Rattle.node.specs.declared.handover.Retired.{Retired}
 
 -- ---- the first node
 
@@ -46,7 +47,15 @@ SettlesTo t m M (Err x) u = Settles t m M (Err x.refusal) u x.node.member
 
 -- ---- what is told
 
+-- how many places of its sheet are used: as many as it delivered messages
+abbrev pub sheet_length : Member → ℕ
+sheet_length m = count_ones (on_sheet m.row)
+
 -- the used part of a sheet of 64 bytes, or 4; f tells the list behind the answer
 abbrev pub Shows : {P : Type 0} → (P → List ℕ) → Member → List ℕ → Result P Refusal → Type 0
-Shows f m sheet (Ok s) = (length sheet ≡ 64) × (f s ≡ take (count_ones (on_sheet m.row)) sheet)
+Shows f m sheet (Ok s) = (length sheet ≡ 64) × (f s ≡ take (sheet_length m) sheet)
 Shows f m sheet (Err e) = ((length sheet == 64) ≡ false) × (e ≡ WrongTableSize)
+
+-- what is left of a node that was ended: its stage, and how long its sheet is
+abbrev pub Leaves : Member → Retired → Type 0
+Leaves m left = (left.stage ≡ m.row.stage) × (left.sheet_length ≡ sheet_length m)

@@ -3,16 +3,15 @@ ghost use Rattle.rows.specs.Letters.{data_letter, check_letter};
 ghost use Rattle.node.specs.Tables.{lent_in, StillLent};
 ghost use Rattle.node.specs.Takes.{Takes};
 ghost use Rattle.node.specs.Decides.{Proposes};
-ghost use Rattle.node.specs.States.{SettlesTo, Shows};
+ghost use Rattle.node.specs.States.{Leaves, SettlesTo, Shows};
 
 use crate::closing_node::Closing;
 use crate::gathering_node::Gathering;
-use crate::handover::Refused;
+use crate::handover::{Refused, Retired};
 use crate::tables::NodeTables;
 use chooser::chooser::Chooser;
 use rows::letter::{Letter, LetterKind};
 use rows::refusal::Refusal;
-use rows::row::Row;
 
 // A closing node has no call for acknowledgements: it delivers by the decision alone. A host holds back those of a later
 // stage, and throws the others away.
@@ -85,11 +84,11 @@ impl Closing {
         self.member.show(sheet)
     }
 
-    // Ends the node for good, as a crash does; what it knew is all that is left.
-    pub fn retire(self) -> Row
-        ensures { result ≡ self.member.row }
+    // Ends the node for good, as a crash does. What is left tells its stage and how long its sheet is.
+    pub fn retire(self) -> Retired
+        ensures { Leaves self.member result }
     {
         let Closing { member } = self;
-        member.row
+        member.retired()
     }
 }

@@ -4,11 +4,11 @@ ghost use Rattle.node.specs.Tables.{lent_in, StillLent};
 ghost use Rattle.node.specs.Takes.{Takes};
 ghost use Rattle.node.specs.Gathers.{Acknowledges};
 ghost use Rattle.node.specs.Alike.{GoesAsInARing};
-ghost use Rattle.node.specs.States.{Begins, ClosesTo, Shows};
+ghost use Rattle.node.specs.States.{Begins, ClosesTo, Leaves, Shows};
 
 use crate::closing_node::Closing;
 use crate::gathering_node::Gathering;
-use crate::handover::{Closed, Refused};
+use crate::handover::{Closed, Refused, Retired};
 use crate::member::Member;
 use crate::tables::NodeTables;
 use chooser::chooser::Chooser;
@@ -116,11 +116,11 @@ impl Gathering {
         self.member.show(sheet)
     }
 
-    // Ends the node for good, as a crash does; what it knew is all that is left.
-    pub fn retire(self) -> Row
-        ensures { result ≡ self.member.row }
+    // Ends the node for good, as a crash does. What is left tells its stage and how long its sheet is.
+    pub fn retire(self) -> Retired
+        ensures { Leaves self.member result }
     {
         let Gathering { member } = self;
-        member.row
+        member.retired()
     }
 }

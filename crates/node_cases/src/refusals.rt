@@ -1,10 +1,10 @@
 use crate::desk::*;
 use crate::letters::*;
 use crate::server::*;
+use chooser::chooser::Chooser;
 use chooser::lowest_of::LowestOf;
 use node::gathering_node::Gathering;
 use rows::letter::{Letter, LetterKind};
-use rows::row::Phase;
 use rows::size::RingSize;
 use std::process::Abort;
 use std::test::Fail;
@@ -161,27 +161,58 @@ fn check_checks(rt: &impl Abort, server: Server, desk: &mut Desk) -> Server {
     check_letters(rt, server, desk, LetterKind::Check, good, others)
 }
 
-// Each call for letters refuses what it does not take, in either state.
+// Takes two checks more, after which there are three: only then it may propose. The node then.
+fn check_third(rt: &impl Abort, server: Server, desk: &mut Desk) -> Server {
+    let cases = [
+        (Call::Propose, Seen::Refused(18)),
+        (Call::Check(check(2, 1, 1)), Seen::Taken),
+        (Call::Propose, Seen::Refused(18)),
+        (Call::Check(check(3, 1, 1)), Seen::Taken),
+        (Call::Propose, Seen::Taken),
+    ];
+    check_calls(rt, server, desk, &cases)
+}
+
+// Each call of a gathering node for letters refuses what it does not take. Of all of these it knows message 1, that node 0
+// acknowledged message 0, and one check.
 #[test]
-fn letters(rt: HostRuntime) -> Result<(), Fail> {
+fn letters_while_gathering(rt: HostRuntime) -> Result<(), Fail> {
     let mut desk = Desk::new([DRAW, PAY, PAY], 1)?;
     let server = Server::new(&desk)?;
     let server = check_data(&rt, server, &mut desk);
     let server = check_acknowledgements(&rt, server, &mut desk);
     let server = check_checks(&rt, server, &mut desk);
-    let row = server.retire();
-    assert_eq!(rt;
-        (row.received, row.heard[0], row.heard[1], row.checked),
-        (2, 1, 0, 1)
-    );
+    let heard = [
+        (Call::Acknowledge, Seen::Sent(acknowledgement(1, 1, 2))),
+        (Call::Acknowledgement(acknowledgement(2, 1, 3)), Seen::Taken),
+        (Call::Acknowledgement(acknowledgement(3, 1, 2)), Seen::Taken),
+    ];
+    let server = check_calls(&rt, server, &mut desk, &heard);
+    check_sheet(&rt, &server, &desk, &[]);
+    let closed = [
+        (Call::Acknowledgement(acknowledgement(3, 1, 1)), Seen::Taken),
+        (Call::Data(data(0, 1)), Seen::Sent(data(1, 1))),
+        (Call::Close, Seen::Sent(check(1, 1, 2))),
+    ];
+    let server = check_calls(&rt, server, &mut desk, &closed);
+    check_sheet(&rt, &server, &desk, &[0]);
+    let server = check_third(&rt, server, &mut desk);
+    assert_eq!(rt; desk.chooser.decision(1), Ok(Some((1, 2))));
+    assert_eq!(rt; server.retire(), left(1, 1));
+    Ok(())
+}
+
+// Each call of a closing node for letters refuses what it does not take. Of all of these it knows message 1, besides 0 and
+// 2, and one check.
+#[test]
+fn letters_while_closing(rt: HostRuntime) -> Result<(), Fail> {
+    let mut desk = Desk::new([DRAW, PAY, PAY], 1)?;
     let server = closed(&rt, &mut desk)?;
     let server = check_data(&rt, server, &mut desk);
     let server = check_checks(&rt, server, &mut desk);
-    let row = server.retire();
-    assert_eq!(rt;
-        (row.received, row.checked, row.phase),
-        (7, 1, Phase::Closing)
-    );
+    let server = check_third(&rt, server, &mut desk);
+    assert_eq!(rt; desk.chooser.decision(1), Ok(Some((1, 6))));
+    assert_eq!(rt; server.retire(), left(1, 0));
     Ok(())
 }
 
@@ -213,9 +244,9 @@ fn nothing_new(rt: HostRuntime) -> Result<(), Fail> {
         (Call::Data(data(1, 2)), Seen::Taken),
         (Call::Acknowledge, Seen::Refused(17)),
         (Call::Close, Seen::Sent(check(1, 1, 5))),
+        (Call::Propose, Seen::Refused(18)),
     ];
     let server = check_calls(&rt, server, &mut desk, &cases);
-    let row = server.retire();
-    assert_eq!(rt; (row.pending, row.phase), (5, Phase::Closing));
+    assert_eq!(rt; server.retire(), left(1, 0));
     Ok(())
 }

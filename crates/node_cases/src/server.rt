@@ -2,12 +2,11 @@ use crate::desk::*;
 use crate::letters::sent_to;
 use node::closing_node::Closing;
 use node::gathering_node::Gathering;
-use node::handover::{Closed, Refused};
+use node::handover::{Closed, Refused, Retired};
 use record::kitty::Kitty;
 use record::record::Record;
 use rows::letter::Letter;
 use rows::refusal::Refusal;
-use rows::row::Row;
 use rows::size::RingSize;
 use std::process::Abort;
 use std::test::Fail;
@@ -68,7 +67,7 @@ impl Server {
         }
     }
 
-    pub(crate) fn retire(self) -> Row {
+    pub(crate) fn retire(self) -> Retired {
         match self {
             Server::Gathers(node) => node.retire(),
             Server::Closes(node) => node.retire(),
@@ -163,6 +162,14 @@ fn check_call(rt: &impl Abort, server: Server, desk: &mut Desk, call: Call, seen
         }
     }
     server
+}
+
+// What is left of a node that was ended in this stage, with so many messages on its sheet.
+pub(crate) fn left(stage: u32, sheet_length: usize) -> Retired {
+    Retired {
+        stage,
+        sheet_length,
+    }
 }
 
 // Sees that the node delivered these messages in this order.
