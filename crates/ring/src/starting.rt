@@ -48,7 +48,7 @@ impl Ring {
             (world self.new tray.new book.new sheets.new)
             (C.Chooser.meaning chooser.now) }
         ensures follows { EveryRecordFollows size result
-            (world_of self.new tables.new)
+            (world self.new tray.new book.new sheets.new)
             (C.Chooser.meaning chooser.now) }
     {
         check_sizes(tray, book, sheets)?;

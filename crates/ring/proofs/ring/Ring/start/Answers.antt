@@ -16,7 +16,7 @@ returns-clause-days g c =
 
 pub returns-clause-follows : goal.returns-clause-follows
 returns-clause-follows g c =
-    let u : World = world_of c.args.self.now c.args.tables.now in
+    let u : World = world c.args.self.now c.args.tray.now c.args.book.now c.args.sheets.now in
     let v : World = world c.of_size.result c.fill.new.self c.fill-2.new.self c.fill-3.new.self in
     let M : Meaning = g.C.Chooser.meaning c.args.chooser.now in
     let s : Starts c.args.size u M (Ok tt) v = search rules in
