@@ -17,7 +17,6 @@ pub mod Table
 pub mod ClosingBookLaws
 pub mod KindsKeepLaws
 pub mod KittyLaws
-pub mod Conflicts
 pub mod PairLaws
 pub mod RoundsLaws
 pub mod CardLaws

@@ -1,5 +1,5 @@
 -- The laws of the rounds of eight players.
-use Rattle.std.specs.Prelude.{◌≡◌, ℕ, zero, suc, ◌<◌, true, false, ◌||◌, ◌≢◌, List, [], ◌∷◌, length, get_or}
+use Rattle.std.specs.Prelude.{◌≡◌, ℕ, zero, suc, ◌<◌, Bool, true, false, not, ◌&&◌, ◌||◌, ◌≢◌, List, [], ◌∷◌, length, get_or}
 use Rattle.std.specs.Prelude.{set, take, ◌==◌, nat_eq, nat_lt, slice_index_or, slice_set, refl}
 use Rattle.std.proofs.Common.{arith, ap, ◌∙◌, sym, subst, ⊎_elim}
 use Rattle.std.proofs.lemmas.Bool.Decides.{nat_tests}
@@ -14,7 +14,6 @@ use Rattle.record.specs.declared.rounds.card.Round.{Round}
 use Rattle.record.specs.CardLaws.{after_card}
 use Rattle.record.specs.CodedLaws.{coded_laws}
 use Rattle.record.specs.Codes.{cards_back, cards_width}
-use Rattle.record.specs.Conflicts.{either_way}
 use Rattle.record.specs.Placing.{ahead_total}
 use Rattle.record.specs.PlacingFacts.{PlacingFacts}
 
@@ -106,6 +105,13 @@ commute k ts c d e p both =
     (λ (z : nat_eq c.subject d.subject ≡ false).
     two_players ts c.subject d.subject (card_after c) (card_after d) (eqb-false c.subject d.subject z))
     (cases_Bool (c.subject == d.subject))
+
+-- where an unlawful command conflicts with every command, conflict is mutual if that of lawful commands is
+either_way : (p q x y : Bool) → x ≡ y → (not (p && q) || x) ≡ (not (q && p) || y)
+either_way true true x y e = e
+either_way true false x y e = refl
+either_way false true x y e = refl
+either_way false false x y e = refl
 
 -- the told list is read back to the rounds that it tells
 pub read_back : (ts : List (List Round)) → rounds_machine.valid ts ≡ true → rounds_machine.decode (encode_cards ts) ≡ ts
