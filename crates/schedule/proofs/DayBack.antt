@@ -13,7 +13,8 @@ use Rattle.schedule.specs.declared.reader.Reader.{Reader}
 use Rattle.schedule.specs.Entries.{Act, act_of, entry_at}
 use Rattle.schedule.specs.Drafts.{spelling, act_drafted}
 use Rattle.schedule.specs.Readings.{NextEntry}
-use Rattle.schedule.specs.ReadingBack.{IsWritable, schedule_of, header_spelling, ReadAs, Says}
+use Rattle.schedule.specs.Laws.{header_spelling}
+use Rattle.schedule.specs.ReadingBack.{IsWritable, schedule_of, ReadAs, Says}
 use Rattle.schedule.specs.ReadingBack.{EntriesReadBack, ReadIsAhead, DayReadsBack}
 use Rattle.schedule.proofs.Back.{after}
 use Rattle.schedule.proofs.EntryBack.{entry_back}

@@ -10,7 +10,8 @@ use Rattle.schedule.specs.declared.header.Header.{Header}
 use Rattle.schedule.specs.Numbers.{spell}
 use Rattle.schedule.specs.Kinds.{chooser_kind, number_of_chooser, number_of_record}
 use Rattle.schedule.specs.Headers.{header_at}
-use Rattle.schedule.specs.ReadingBack.{header_spelling, HeaderReadsBack}
+use Rattle.schedule.specs.Laws.{header_spelling}
+use Rattle.schedule.specs.ReadingBack.{HeaderReadsBack}
 use Rattle.schedule.proofs.Back.{next}
 use Rattle.schedule.proofs.Lengths.{length_4}
 

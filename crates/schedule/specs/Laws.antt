@@ -26,9 +26,13 @@ OneSpelling bytes p act q =
 abbrev pub header_numbers : Header → List ℕ
 header_numbers h = h.n ∷ h.q ∷ number_of_chooser h.chooser ∷ number_of_record h.«record» ∷ []
 
--- from p up to q stand the very bytes of the header's numbers
+-- the bytes of a header
+abbrev pub header_spelling : Header → List ℕ
+header_spelling h = spelled (header_numbers h)
+
+-- from p up to q stand the very bytes of the header
 abbrev pub OneHeader : List ℕ → ℕ → Header → ℕ → Type 0
-OneHeader bytes p h q = drop p bytes ≡ spelled (header_numbers h) ++ drop q bytes
+OneHeader bytes p h q = drop p bytes ≡ header_spelling h ++ drop q bytes
 
 -- from one place up to another
 abbrev pub Between : ℕ → ℕ → ℕ → Type 0

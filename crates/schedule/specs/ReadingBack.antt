@@ -8,8 +8,8 @@ use Rattle.schedule.specs.declared.header.Header.{Header}
 use Rattle.schedule.specs.declared.reader.Reader.{Reader}
 use Rattle.schedule.specs.Entries.{Act, act_of, entry_at}
 use Rattle.schedule.specs.Headers.{header_at}
-use Rattle.schedule.specs.Drafts.{spelled, spelling, within, act_drafted, InRange}
-use Rattle.schedule.specs.Laws.{header_numbers}
+use Rattle.schedule.specs.Drafts.{spelling, within, act_drafted, InRange}
+use Rattle.schedule.specs.Laws.{header_spelling}
 use Rattle.schedule.specs.Readings.{NextEntry}
 
 -- a draft that is written: its numbers are within their limits
@@ -19,10 +19,6 @@ IsWritable d = (within d ≡ true) × InRange d
 -- the bytes of drafts, one after the other
 abbrev pub schedule_of : List Draft → List ℕ
 schedule_of = flat_map spelling
-
--- the bytes of a header
-abbrev pub header_spelling : Header → List ℕ
-header_spelling h = spelled (header_numbers h)
 
 -- from p on the bytes read as these entries, one after the other, and then they end
 abbrev pub ReadAs : List ℕ → ℕ → List Act → Type 0
