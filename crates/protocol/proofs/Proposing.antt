@@ -1,6 +1,6 @@
 -- A closing node that keeps enough checks proposes.
-use Rattle.std.proofs.Common.{◌≡◌, ℕ, ◌<◌, Bool, true, ◌&&◌, ◌||◌, ◌⊎◌, sym, refl, ap, ◌∙◌, subst, inl, inr, arith}
-use Rattle.std.proofs.lemmas.Bool.{cases_Bool, or_cases, and_parts}
+use Rattle.std.proofs.Common.{◌≡◌, ℕ, ◌/◌, ◌<◌, Bool, true, ◌&&◌, ◌||◌, ◌⊎◌, sym, refl, ap, ◌∙◌, subst, inl, inr, arith}
+use Rattle.std.proofs.lemmas.Bool.{cases_Bool, or_cases, and_parts, ltb-true, lt-ltb}
 use Rattle.protocol.specs.Sets.{Set, ◌∈◌, ◌∖◌, ◌∪◌}
 use Rattle.protocol.specs.Ring.{Size, State, Node}
 use Rattle.protocol.specs.Setters.{with_proposed}
@@ -76,8 +76,8 @@ module _ {z : Size} {s t : State} (r : ℕ) (o : Ok z s) (c : Proposes z s t r) 
     votes = N.check;
     full = omega (arith, c.enough, ok.checks.kept_few);
     cast = (checks_up e ok.checks).kept_from;
-    most = λ m h. grind (arith, h);
-    all = λ m h. grind (arith, h);
+    most = λ m h. ltb-true (z.chk / 2) _ h;
+    all = λ m h. lt-ltb (z.chk / 2) _ h;
   }
 
   -- what is received and new is proposed
