@@ -1,4 +1,5 @@
 ghost use Rattle.std.specs.Prelude.{◌≡◌, ◌≤◌};
+ghost use Rattle.rows.specs.Rows.{on_sheet};
 ghost use Rattle.node.specs.States.{sheet_length, Leaves, Shows};
 
 use crate::handover::Retired;
@@ -7,13 +8,20 @@ use crate::tables::MESSAGES;
 use rows::refusal::Refusal;
 
 impl Member {
-    // How many places of its sheet are used: as many as it delivered messages.
+    // The messages on its sheet: those that it delivered, in earlier stages and in this one.
+    fn on_sheet(&self) -> u64
+        ensures { result ≡ on_sheet self.now.row }
+    {
+        self.row.delivered | self.row.early
+    }
+
+    // How many places of its sheet are used.
     fn sheet_length(&self) -> usize
         ensures length { result ≡ sheet_length self.now }
         ensures fits { result ≤ 64 }
     {
         // Stays a cast: usize has no From of u32.
-        (self.row.delivered | self.row.early).count_ones() as usize
+        self.on_sheet().count_ones() as usize
     }
 
     // The numbers of the messages that the node delivered, in order: that part of the sheet itself. Refused: 4 the sheet
