@@ -13,8 +13,8 @@ use rows::size::RingSize;
 impl Ring {
     // Stays with the fact on the size, as the step of a gathering node does.
 
-    // The step of a closing node that has not proposed: it proposes. Refused: 18 it keeps fewer than q checks; 20 the
-    // chooser refuses.
+    // The step of a closing node that has not proposed: it proposes. It is lent no table, and its contract holds of any.
+    // Refused: 18 it keeps fewer than q checks; 20 the chooser refuses.
     pub(crate) fn propose<C: Chooser>(
         &mut self,
         chooser: &mut C,
@@ -35,8 +35,8 @@ impl Ring {
         Ok(Step::Proposed)
     }
 
-    // The step of a closing node that has proposed: it settles its stage by the decision. Refused: 20 the chooser
-    // refuses; 19 the stage is undecided.
+    // The step of a closing node that has proposed: it settles its stage by the decision. It is lent the sheets alone, and
+    // its contract holds of any tray and book. Refused: 20 the chooser refuses; 19 the stage is undecided.
     pub(crate) fn settle<C: Chooser>(
         &mut self,
         sheets: &mut [u8],

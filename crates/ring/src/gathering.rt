@@ -16,8 +16,8 @@ impl Ring {
     // so that no type of started rings could say it.
 
     // The step of a gathering node: it acknowledges all that it has not delivered, or, where two messages of that
-    // conflict, sends its check and closes the stage. Refused: 17 it has acknowledged all of it; 12 fewer free places
-    // than nodes.
+    // conflict, sends its check and closes the stage. It is lent no sheets, and its contract holds of any. Refused: 17 it
+    // has acknowledged all of it; 12 fewer free places than nodes.
     pub(crate) fn gather<R: Record>(
         &mut self,
         tray: &mut [Letter],

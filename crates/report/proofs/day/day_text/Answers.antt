@@ -1,4 +1,4 @@
-use Rattle.std.proofs.Common.{◌≡◌, List, replicate, string_bytes, subst, rules}
+use Rattle.std.proofs.Common.{◌≡◌, replicate, string_bytes, subst, rules}
 use Rattle.std.proofs.lemmas.Result.{IfOk-weaker}
 use Rattle.chooser.specs.Meaning.{Meaning}
 use Rattle.ring.specs.World.{World, world}
