@@ -16,7 +16,7 @@ fn four_nodes(rt: HostRuntime) -> Result<(), Fail> {
 }
 
 // Five nodes, q = 4, of which node 4 crashes before it receives anything. Letters to it are lost, or cannot be received;
-// one between live nodes cannot be lost. Node 0 hears the four others on the payment, node 1 three of them.
+// one between live nodes cannot be lost. Node 0 hears all four live nodes on the payment, node 1 three of them.
 #[test]
 fn five_nodes(rt: HostRuntime) -> Result<(), Fail> {
     let day: [u8; 55] = [

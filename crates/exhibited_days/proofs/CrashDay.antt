@@ -155,7 +155,15 @@ starts : Starts four idle chooser (Ok tt) start
 unfolding in_use
 starts = (refl, refl)
 
--- nodes 0, 1 and 2 live, and have delivered both messages
+-- at noon nodes 0, 1 and 2 have delivered the first message
+one_delivered : (r : ℕ) → r < 3 → sheet_of noon r ≡ 0 ∷ []
+unfolding ones
+one_delivered zero l = refl
+one_delivered (suc zero) l = refl
+one_delivered (suc (suc zero)) l = refl
+one_delivered (suc (suc (suc r))) l = absurd (omega arith)
+
+-- in the evening they live, and have delivered both
 three_delivered : (r : ℕ) → r < 3 → (lives evening r ≡ true) × (sheet_of evening r ≡ 0 ∷ 1 ∷ [])
 unfolding ones
 three_delivered zero l = (refl, refl)
@@ -191,6 +199,7 @@ outlives_a_crash = (
     pays = refl;
     crashes = refl;
     lost = refl;
+    delivers_one = one_delivered;
     plays = (refl, refl);
     longer = afternoon_day;
     accepted = refl;

@@ -103,7 +103,7 @@ unfolding ones any heard_from those members count early_day
 comes_to_rest = (
   early,
   new_log,
-  record { day = of_one early_day refl; delivers = refl; quiet = quiet_so kitty_kind one early (first_come new_log) refl },
+  record { day = of_one early_day refl; delivered = refl; quiet = quiet_so kitty_kind one early (first_come new_log) refl },
 )
 
 -- ---- a node settles by decision: it broadcasts two messages that conflict, receives both, closes, keeps its own check,

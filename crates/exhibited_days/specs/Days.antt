@@ -56,7 +56,7 @@ pub record SettlesByDecision (w : World) (g : Log) : Type 0 where
 -- A message is delivered, and then nothing is left to do: every receipt and every step would be refused. A ring of one.
 pub record ComesToRest (w : World) (g : Log) : Type 0 where
   pub day : DayOf 1 w g
-  pub delivers : sheet_of w 0 ≡ 0 ∷ []
+  pub delivered : sheet_of w 0 ≡ 0 ∷ []
   pub quiet : Quiet kitty_kind day.size w (first_come g)
 
 -- pays x into the kitty
@@ -76,6 +76,7 @@ pub record OutlivesACrash (w v : World) (g : Log) : Type 0 where
   pub pays : broadcast_on day.day ≡ broadcast_of 0 (payment 50) 0 ∷ []
   pub crashes : crashed_on day.day ≡ 3 ∷ []
   pub lost : (letter_at w 3).mark ≡ lost
+  pub delivers_one : (r : ℕ) → r < 3 → sheet_of w r ≡ 0 ∷ []
   pub plays : CatchesUp kitty_kind w 2 0 (Ok 1) (0 ∷ []) (50 ∷ [])
   pub longer : Day kitty_kind w (first_come g) v (first_come g)
   pub accepted : all_accepted longer ≡ true

@@ -70,7 +70,7 @@ abbrev pub ByHeader : Result (Header × ℕ) EntryFault → List ℕ → List �
 ByHeader (Err f) bytes s = s ≡ fault_text f
 ByHeader (Ok x) bytes s = BySize (size_refusal x.0.n x.0.q) x.0 bytes x.1 s
 
--- an input of more than 4,096 bytes is not read
+-- an input of more than 4,096 bytes is not run
 abbrev pub ByLength : Bool → List ℕ → List ℕ → Type 0
 ByLength true bytes s = s ≡ long_text
 ByLength false bytes s = ByHeader (header_at bytes 0) bytes s
