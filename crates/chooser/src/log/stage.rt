@@ -10,8 +10,8 @@ const HIGHEST_NODE: u8 = 6;
 // Stays: an array with a count, since proposing never allocates and a fixed vector of another crate is more to trust.
 #[derive(Clone, Copy)]
 pub struct Stage {
-    count: usize,
-    proposals: [Proposal; 7],
+    pub count: usize,
+    pub proposals: [Proposal; 7],
     ghost places: { length proposals ≡ 7 },
     ghost within: { count ≤ 7 },
     ghost each_once: { apart 7 (take count proposals) ≡ true },

@@ -18,8 +18,8 @@ pub struct Round {
 // Stays an array with a count: a Vec allocates, and an ArrayVec is not Copy, as a card is, and is one more crate to trust.
 #[derive(Clone, Copy)]
 pub struct Card {
-    count: usize,
-    rounds: [Round; 20],
+    pub count: usize,
+    pub rounds: [Round; 20],
     ghost room: { count ≤ 20 },
     ghost in_play: { is_card (take count rounds) ≡ true },
 }
