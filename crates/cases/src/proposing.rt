@@ -40,3 +40,24 @@ fn a_check_beyond_the_quorum_is_not_kept(rt: HostRuntime) -> Result<(), Fail> {
     assert_eq!(rt; chooser.decision(1)?, Some((0b01, 0b10)));
     Ok(())
 }
+
+// A row that proposes while it still gathers goes on gathering: in a ring of one node, the acknowledgement that comes
+// after that is heard, so message 0 is delivered early, to the first place of the sheet. When it is closed it has still
+// proposed, also when it is closed again.
+#[test]
+fn a_row_that_proposed_ahead_still_gathers(rt: HostRuntime) -> Result<(), Fail> {
+    let size = RingSize::new(1, 1)?;
+    let mut row = Row::new();
+    let mut sheets = [9; 64];
+    row.take(size, Letter::check(0, 1, 0b1), &mut sheets, 0);
+    row.propose(size, &mut FirstCome::new(), 0)?;
+    row.take(size, Letter::acknowledgement(0, 1, 0b1), &mut sheets, 0);
+    assert_eq!(rt; row.early, 0b1);
+    assert_eq!(rt; sheets[0], 0);
+    assert_eq!(rt; row.phase, Phase::Ahead);
+    row.close();
+    assert_eq!(rt; row.phase, Phase::Waiting);
+    row.close();
+    assert_eq!(rt; row.phase, Phase::Waiting);
+    Ok(())
+}

@@ -1,5 +1,5 @@
 -- Calls as data, and what they make of a world by computing: a list of calls that nothing refuses is a day.
-use Rattle.std.proofs.Common.{◌≡◌, ℕ, Bool, true, false, not, ◌&&◌, List, [], ◌∷◌, is_none, Some, None, Ok, Option, sym, refl, ap, subst}
+use Rattle.std.proofs.Common.{◌≡◌, ℕ, Bool, true, false, not, ◌&&◌, List, [], ◌∷◌, is_none, Some, None, Ok, Option, Result, sym, refl, ap, subst}
 use Rattle.std.proofs.lemmas.Bool.{and_parts, not-true, both_ways}
 use Rattle.record.specs.Kind.{Kind}
 use Rattle.record.specs.declared.command.Command.{Command}
@@ -10,14 +10,15 @@ use Rattle.rows.specs.Receipts.{is_gathering}
 use Rattle.rows.specs.Rows.{undelivered}
 use Rattle.rows.specs.declared.refusal.Refusal.{Refusal}
 use Rattle.rows.specs.declared.row.Phase.{Phase}
-use Rattle.rows.specs.declared.row.Phase.TheVariants.{Gathering, Closing, Waiting}
+use Rattle.rows.specs.declared.row.Phase.TheVariants.{Gathering, Closing, Waiting, Ahead}
 use Rattle.ring.specs.World.{World, row_of, live_refusal}
 use Rattle.ring.specs.Broadcast.{broadcast_refusal, broadcast_by}
 use Rattle.ring.specs.Receive.{receive_refusal, received}
-use Rattle.ring.specs.Gather.{gather_refusal, acknowledged}
+use Rattle.ring.specs.Gather.{gather_refusal, acknowledged, Gathers}
 use Rattle.ring.specs.Fail.{crashed_by, lose_refusal, lost_at}
 use Rattle.ring.specs.Step.{ByPhase, ByCause, stepper_refusal, Steps}
 use Rattle.ring.specs.Day.{Day, broadcasts, receives, steps, crashes, loses, with_ring}
+use Rattle.ring.specs.declared.step.Step.{Step}
 use Rattle.ring.specs.declared.step.Step.TheVariants.{Acknowledged}
 use Rattle.ring.proofs.Causes.{first_none}
 
@@ -61,11 +62,13 @@ pub no_cause : (o : Option Refusal) → is_none o ≡ true → o ≡ None
 no_cause None h = refl
 no_cause (Some e) h = absurd (both_ways false refl h)
 
--- the phase of a gathering node
-gathers : (p : Phase) → is_gathering p ≡ true → p ≡ Gathering
-gathers Gathering h = refl
-gathers Closing h = absurd (both_ways false refl h)
-gathers Waiting h = absurd (both_ways false refl h)
+-- what is allowed to a gathering node is its step, in either phase that gathers
+gathers : (K : Kind) (w : World) (M : Meaning) (node : ℕ) (r : Result Step Refusal) (v : World) (N : Meaning) (p : Phase)
+    → is_gathering p ≡ true → Gathers K.conflicts w node r v × (N ≡ M) → ByPhase K p w M node r v N
+gathers K w M node r v N Gathering h x = x
+gathers K w M node r v N Closing h x = absurd (both_ways false refl h)
+gathers K w M node r v N Waiting h x = absurd (both_ways false refl h)
+gathers K w M node r v N Ahead h x = x
 
 -- an acknowledgement that nothing refuses is a step
 pub acknowledges : (K : Kind) (w : World) (M : Meaning) (node : ℕ) → allowed K w (acknowledge node) ≡ true →
@@ -75,7 +78,7 @@ acknowledges K w M node h =
     let c = first_none (stepper_refusal w node) (gather_refusal w node) (no_cause _ p.0) in
     let q = and_parts (is_gathering (row_of w node).phase) _ p.1 in
     subst (λ (o : Option Refusal). ByCause o K w M node (Ok Acknowledged) (acknowledged w node) M) (sym c.0)
-    (subst (λ (x : Phase). ByPhase K x w M node (Ok Acknowledged) (acknowledged w node) M) (sym (gathers _ q.0))
+    (gathers K w M node (Ok Acknowledged) (acknowledged w node) M (row_of w node).phase q.0
     ((c.1, not-true _ q.1, refl), refl))
 
 module _ (K : Kind) (w₀ : World) (M₀ : Meaning) (M : Meaning) (sound : Sound M) where

@@ -11,7 +11,7 @@ use Rattle.rows.specs.Refusals.{number_of}
 use Rattle.rows.specs.declared.refusal.Refusal.{Refusal}
 use Rattle.rows.specs.declared.refusal.Refusal.TheVariants.{WrongTableSize, NotStarted, NoSuchNode, PlaceUnused}
 use Rattle.rows.specs.declared.row.Phase.{Phase}
-use Rattle.rows.specs.declared.row.Phase.TheVariants.{Gathering, Closing, Waiting}
+use Rattle.rows.specs.declared.row.Phase.TheVariants.{Gathering, Closing, Waiting, Ahead}
 use Rattle.rows.specs.declared.size.RingSize.{RingSize}
 use Rattle.ring.specs.World.{World, nodes_of, row_of}
 use Rattle.ring.specs.Receive.{receive_refusal}
@@ -126,6 +126,7 @@ module _ (K : Kind) (w : World) (M : Meaning) (node : ℕ) (a : Result Step Refu
   phase_answers Gathering h made = gathering_answers (gather_refusal w node) a refl h made.0
   phase_answers Closing h made = absurd (both_ways false refl h)
   phase_answers Waiting h made = absurd (both_ways false refl h)
+  phase_answers Ahead h made = gathering_answers (gather_refusal w node) a refl h made.0
 
   -- and by the cause before that
   step_answers : (o : Option Refusal) →

@@ -6,7 +6,7 @@ use Rattle.chooser.specs.Meaning.{Meaning}
 use Rattle.rows.specs.declared.letter.Letter.{Letter}
 use Rattle.rows.specs.declared.refusal.Refusal.{Refusal}
 use Rattle.rows.specs.declared.row.Phase.{Phase}
-use Rattle.rows.specs.declared.row.Phase.TheVariants.{Gathering, Closing, Waiting}
+use Rattle.rows.specs.declared.row.Phase.TheVariants.{Gathering, Closing, Waiting, Ahead}
 use Rattle.ring.specs.declared.step.Step.{Step}
 use Rattle.ring.specs.declared.step.Step.TheVariants.{Acknowledged, Closed, Proposed, Settled}
 use Rattle.node.specs.Tables.{Lent}
@@ -65,6 +65,7 @@ module _ (t : Lent) (m : Member) (u u' : Lent) (k k' : Member) where
     turns_once conflicts Gathering r h g = gathers_once conflicts r h.0 g.0
     turns_once conflicts Closing r h g = proposes_once r h g
     turns_once conflicts Waiting r h g = settles_once r h g
+    turns_once conflicts Ahead r h g = gathers_once conflicts r h.0 g.0
 
 -- one event leads to one
 does_once : (K : Kind) (e : Event) (m : Member) (t : Lent) (k k' : Member) (u u' : Lent) → Does K e m t k u → Does K e m t k' u'

@@ -4,18 +4,19 @@ use Rattle.std.proofs.Common.{replicate, Some, None, Ok, Err, Option, Result, sy
 use Rattle.std.specs.List.{filter}
 use Rattle.std.proofs.lemmas.Bool.{cases_Bool, or_from, or_left, true≢false, not_from_true, eq-eqb, ltb-false, cond-true, cond-false}
 use Rattle.record.specs.Kind.{Kind}
+use Rattle.record.specs.declared.command.Command.{Command}
 use Rattle.chooser.specs.Meaning.{Meaning, Appended, served, proposal_of}
 use Rattle.rows.specs.Causes.{refuse, first, answer, outcome, unless}
 use Rattle.rows.specs.Letters.{acknowledgement, check_letter, letter_of, no_letter, sent, no_room}
 use Rattle.rows.specs.Proposals.{proposed_sets, propose_refusal}
-use Rattle.rows.specs.Receipts.{is_proposed}
-use Rattle.rows.specs.Rows.{undelivered, with_pending, with_phase, with_proposed}
+use Rattle.rows.specs.Receipts.{is_gathering, is_proposed}
+use Rattle.rows.specs.Rows.{undelivered, with_pending, with_closed, with_proposed}
 use Rattle.rows.specs.Settlements.{settled_row, settled_sheets, settle_refusal, decided_of}
 use Rattle.rows.specs.declared.letter.Letter.{Letter}
 use Rattle.rows.specs.declared.refusal.Refusal.{Refusal}
 use Rattle.rows.specs.declared.refusal.Refusal.TheVariants.{NothingNew, TrayFull, Undecided}
 use Rattle.rows.specs.declared.row.Phase.{Phase}
-use Rattle.rows.specs.declared.row.Phase.TheVariants.{Gathering, Closing, Waiting}
+use Rattle.rows.specs.declared.row.Phase.TheVariants.{Gathering, Closing, Waiting, Ahead}
 use Rattle.rows.specs.declared.row.Row.{Row}
 use Rattle.rows.specs.declared.size.RingSize.{RingSize}
 use Rattle.ring.specs.World.{World, nodes_of, row_of, with_used}
@@ -34,7 +35,7 @@ use Rattle.ring.proofs.SettlementJoined.{told_stands, first_small, second_small}
 use Rattle.node.specs.Tables.{Lent, lent, table_refusal}
 use Rattle.node.specs.Gathers.{acknowledge_refusal, close_refusal, nothing_new, has_conflict}
 use Rattle.node.specs.Decides.{node_propose_refusal, node_settle_refusal}
-use Rattle.node.specs.Events.{Event, turned, Turns}
+use Rattle.node.specs.Events.{Event, turned, GathersAlone, Turns}
 use Rattle.node.specs.Alike.{is_its_own, is_answered, Names, posted, stepped, member_in, sheet_part, GoesAlike}
 use Rattle.node.specs.declared.member.Member.{Member}
 use Rattle.node.proofs.LettersSent.{travels, none_travels, sent_behind, nothing_behind, sent_alone}
@@ -46,6 +47,15 @@ use Rattle.node.proofs.EventsGiven.{nothing_given, given_one}
 abbrev own_cause : Option Refusal → Bool
 own_cause None = false
 own_cause (Some e) = is_its_own e
+
+-- what a gathering node does is its turn, in either phase that gathers
+gathers_turn : (conflicts : Command → Command → Bool) (t : Lent) (m : Member) (M : Meaning) (r : Result Step Refusal) (u : Lent)
+    (k : Member) (N : Meaning) (p : Phase) → is_gathering p ≡ true → GathersAlone conflicts t m r u k × (N ≡ M)
+    → Turns conflicts p t m M r u k N
+gathers_turn conflicts t m M r u k N Gathering h x = x
+gathers_turn conflicts t m M r u k N Closing h x = absurd (true≢false (sym h))
+gathers_turn conflicts t m M r u k N Waiting h x = absurd (true≢false (sym h))
+gathers_turn conflicts t m M r u k N Ahead h x = x
 
 -- a cause of a gathering node that is its own is that nothing is new
 nothing_is_new : (b c : Bool) (x : Refusal) → is_its_own x ≡ true → refuse b NothingNew (refuse c TrayFull None) ≡ Some x
@@ -94,11 +104,11 @@ module _ {K : Kind} {z : RingSize} {need : ℕ} {low : 1 ≤ need} {high : need 
     ]
 
     -- ---- gathering
-    module _ (phase : (row_of w i).phase ≡ Gathering) where
-      -- a turn of a gathering node, whose phase is known
-      gathering : (r : Result Step Refusal) (u : Lent) (k : Member) (N : Meaning) → Turns K.conflicts Gathering t m M r u k N
-          → Turns K.conflicts (row_of w i).phase t m M r u k N
-      gathering r u k N h = subst (λ (p : Phase). Turns K.conflicts p t m M r u k N) (sym phase) h
+    module _ (gathers : is_gathering (row_of w i).phase ≡ true) where
+      -- a turn of a gathering node
+      gathering : (r : Result Step Refusal) (u : Lent) (k : Member) (N : Meaning)
+          → GathersAlone K.conflicts t m r u k × (N ≡ M) → Turns K.conflicts (row_of w i).phase t m M r u k N
+      gathering r u k N h = gathers_turn K.conflicts t m M r u k N (row_of w i).phase gathers h
 
       -- what is sent to all in the ring is sent to all by the node by itself
       module _ (l : Letter) (row : Row) (room : no_room w.tray w.ring.used (nodes_of w.ring.size) ≡ false) where
@@ -141,7 +151,7 @@ module _ {K : Kind} {z : RingSize} {need : ℕ} {low : 1 ≤ need} {high : need 
           (sends_alike l row room) refl)
       gathers_alike (Ok (Closed a b)) v h =
           let l = letter_of i check_letter (row_of w i).stage (row_of w i).pending in
-          let row = with_phase Closing (row_of w i) in
+          let row = with_closed (row_of w i) in
           let letters : List Letter = sent (replicate z.n no_letter) 0 l z.n in
           let news = refuse_none _ _ _ h.0 in
           let room = (refuse_none (no_room w.tray w.ring.used (nodes_of w.ring.size)) _ _ news.1).0 in
@@ -290,6 +300,9 @@ module _ {K : Kind} {z : RingSize} {need : ℕ} {low : 1 ≤ need} {high : need 
     pub by_phase : (p : Phase) → (row_of w i).phase ≡ p → (r : Result Step Refusal) (v : World) (N : Meaning)
         → ByPhase K p w M i r v N → GoesAlike K z m₀ i v (es ++ stepped i w M i r v N)
     by_phase Gathering e r v N h =
-        subst (λ (L : Meaning). GoesAlike K z m₀ i v (es ++ stepped i w M i r v L)) (sym h.1) (gathers_alike e r v h.0)
+        subst (λ (L : Meaning). GoesAlike K z m₀ i v (es ++ stepped i w M i r v L)) (sym h.1) (gathers_alike (ap is_gathering e) r v h.0)
     by_phase Closing e r v N h = proposing_alike e r v N h
     by_phase Waiting e r v N h = settles_alike e r v N h
+    by_phase Ahead e r v N h =
+        subst (λ (L : Meaning). GoesAlike K z m₀ i v (es ++ stepped i w M i r v L)) (sym h.1)
+        (gathers_alike (ap is_gathering e) r v h.0)

@@ -4,11 +4,11 @@ use Rattle.std.proofs.Common.{refl, subst, inl, inr}
 use Rattle.std.proofs.lemmas.Bool.{cases_eq, ne_eqb, cond-false}
 use Rattle.record.specs.Kind.{Kind}
 use Rattle.chooser.specs.Meaning.{Meaning, served}
-use Rattle.rows.specs.Rows.{undelivered, with_pending, with_phase, with_proposed}
+use Rattle.rows.specs.Rows.{undelivered, with_pending, with_closed, with_proposed}
 use Rattle.rows.specs.Settlements.{settled_row, settle_refusal, decided_of}
 use Rattle.rows.specs.declared.refusal.Refusal.{Refusal}
 use Rattle.rows.specs.declared.row.Phase.{Phase}
-use Rattle.rows.specs.declared.row.Phase.TheVariants.{Gathering, Closing, Waiting}
+use Rattle.rows.specs.declared.row.Phase.TheVariants.{Gathering, Closing, Waiting, Ahead}
 use Rattle.rows.specs.declared.size.RingSize.{RingSize}
 use Rattle.ring.specs.World.{World, nodes_of, row_of, with_used, table_refusal}
 use Rattle.ring.specs.Gather.{acknowledged, closed, Gathers}
@@ -44,7 +44,7 @@ module _ {K : Kind} {z : RingSize} {need : ℕ} {low : 1 ≤ need} {high : need 
     gathers (Ok (Closed a b)) v h =
         subst (λ (x : World). GoesAlike K z m₀ i x es) (sym h.3)
         (unmoved g (closed w node)
-        (row_elsewhere (with_used (w.ring.used + nodes_of w.ring.size) w.ring) node (with_phase Closing (row_of w node)) i d)
+        (row_elsewhere (with_used (w.ring.used + nodes_of w.ring.size) w.ring) node (with_closed (row_of w node)) i d)
         refl refl (record { places = g.named.places; broadcast = g.named.broadcast; others = g.named.others }))
     gathers (Ok Proposed) v h = absurd h
     gathers (Ok Settled) v h = absurd h
@@ -79,6 +79,7 @@ module _ {K : Kind} {z : RingSize} {need : ℕ} {low : 1 ≤ need} {high : need 
       other_phase Gathering e r v N h = gathers r v h.0
       other_phase Closing e r v N h = proposes r v N h
       other_phase Waiting e r v N h = settles e r v N h
+      other_phase Ahead e r v N h = gathers r v h.0
 
     other_cause : (o : Option Refusal) → stepper_refusal w node ≡ o → (r : Result Step Refusal) (v : World) (N : Meaning)
         → ByCause o K w M node r v N → GoesAlike K z m₀ i v es

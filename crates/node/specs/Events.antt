@@ -9,7 +9,7 @@ use Rattle.rows.specs.Receipts.{is_gathering}
 use Rattle.rows.specs.declared.letter.Letter.{Letter}
 use Rattle.rows.specs.declared.refusal.Refusal.{Refusal}
 use Rattle.rows.specs.declared.row.Phase.{Phase}
-use Rattle.rows.specs.declared.row.Phase.TheVariants.{Gathering, Closing, Waiting}
+use Rattle.rows.specs.declared.row.Phase.TheVariants.{Gathering, Closing, Waiting, Ahead}
 use Rattle.ring.specs.declared.step.Step.{Step}
 use Rattle.ring.specs.declared.step.Step.TheVariants.{Acknowledged, Closed, Proposed, Settled}
 use Rattle.node.specs.Tables.{Lent, lent}
@@ -81,6 +81,7 @@ abbrev pub Turns : (Command → Command → Bool) → Phase → Lent → Member 
 Turns conflicts Gathering t m M r u k N = GathersAlone conflicts t m r u k × (N ≡ M)
 Turns conflicts Closing t m M r u k N = ProposesAlone t m M r u k N
 Turns conflicts Waiting t m M r u k N = SettlesAlone t m M r u k N
+Turns conflicts Ahead t m M r u k N = GathersAlone conflicts t m r u k × (N ≡ M)
 
 -- ---- all of them
 

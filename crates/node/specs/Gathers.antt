@@ -5,10 +5,9 @@ use Rattle.rows.specs.Causes.{refuse, first, outcome, unless}
 use Rattle.rows.specs.Conflicts.{conflicted, clash}
 use Rattle.rows.specs.Letters.{acknowledgement, check_letter, letter_of}
 use Rattle.rows.specs.Masks.{within}
-use Rattle.rows.specs.Rows.{undelivered, with_pending, with_phase}
+use Rattle.rows.specs.Rows.{undelivered, with_pending, with_closed}
 use Rattle.rows.specs.declared.refusal.Refusal.{Refusal}
 use Rattle.rows.specs.declared.refusal.Refusal.TheVariants.{NothingNew}
-use Rattle.rows.specs.declared.row.Phase.TheVariants.{Closing}
 use Rattle.node.specs.Tables.{Lent, table_refusal}
 use Rattle.node.specs.Members.{with_row, sending}
 use Rattle.node.specs.declared.member.Member.{Member}
@@ -45,5 +44,5 @@ abbrev pub Closes : (Command → Command → Bool) → Lent → Member → Resul
 Closes conflicts t m (Ok p) u k =
     (close_refusal conflicts t m ≡ None) × (clash conflicts t.book (undelivered m.row) p.0 p.1 ≡ true)
     × (u ≡ sending m (letter_of m.number check_letter m.row.stage m.row.pending) t)
-    × (k ≡ with_row (with_phase Closing m.row) m)
+    × (k ≡ with_row (with_closed m.row) m)
 Closes conflicts t m (Err e) u k = (close_refusal conflicts t m ≡ Some e) × (u ≡ t) × (k ≡ m)

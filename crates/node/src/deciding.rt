@@ -6,7 +6,6 @@ use crate::member::Member;
 use crate::tables::NodeTables;
 use chooser::chooser::Chooser;
 use rows::refusal::Refusal;
-use rows::row::Phase;
 
 impl Member {
     // Proposes to the chooser. Refused: 4 a table has the wrong size; 18 fewer than q checks are kept; 20 the chooser
@@ -36,7 +35,7 @@ impl Member {
         ensures kept { OnErr result (self.new ≡ self.old) }
     {
         tables.check_sizes(self.size)?;
-        if self.row.phase != Phase::Waiting {
+        if !self.row.phase.has_proposed() {
             return Err(Refusal::Undecided);
         }
         self.row.settle(chooser, tables.sheet, 0)

@@ -1,5 +1,5 @@
 -- The step of a gathering node keeps a world joined to the protocol.
-use Rattle.std.proofs.Common.{◌≡◌, ℕ, ◌+◌, ◌<◌, ◌≤◌, Bool, true, false, not, ◌&&◌, length, None, Ok as Done, Err, Result, sym, refl, ap}
+use Rattle.std.proofs.Common.{◌≡◌, ℕ, ◌+◌, ◌<◌, ◌≤◌, Bool, true, false, not, ◌&&◌, length, None, Ok as Done, Err, Result, sym, refl, ap, ap₂}
 use Rattle.std.proofs.Common.{◌∙◌, subst, inl, inr, arith}
 use Rattle.std.proofs.lemmas.Bool.{cases_Bool, both_ways, and_parts, and_from, ltb-false}
 use Rattle.record.specs.Kind.{Kind}
@@ -11,15 +11,14 @@ use Rattle.protocol.specs.Sets.{Set, ◌∈◌, ◌∖◌}
 use Rattle.rows.specs.Conflicts.{conflicted, clash}
 use Rattle.rows.specs.Letters.{acknowledgement, check_letter, letter_of, no_room}
 use Rattle.rows.specs.Masks.{has, within}
-use Rattle.rows.specs.Receipts.{is_gathering, is_proposed}
-use Rattle.rows.specs.Rows.{undelivered, with_pending, with_phase}
+use Rattle.rows.specs.Receipts.{is_gathering}
+use Rattle.rows.specs.Rows.{undelivered, with_pending, with_closed}
 use Rattle.rows.specs.declared.letter.Letter.{Letter}
 use Rattle.rows.specs.declared.refusal.Refusal.{Refusal}
-use Rattle.rows.specs.declared.row.Phase.{Phase}
-use Rattle.rows.specs.declared.row.Phase.TheVariants.{Gathering, Closing}
 use Rattle.rows.specs.declared.row.Row.{Row}
 use Rattle.rows.specs.declared.size.RingSize.{RingSize}
 use Rattle.rows.proofs.Clashes.{conflicted_true}
+use Rattle.rows.proofs.Phases.{closed_gathers, closed_proposed}
 use Rattle.ring.specs.World.{World, nodes_of, row_of}
 use Rattle.ring.specs.Gather.{gather_refusal, sending, acknowledged, closed, Gathers}
 use Rattle.ring.specs.Promises.{conflict}
@@ -45,10 +44,10 @@ free_of_conflict K w x a b none la lb one other = elim (cases_Bool (conflict K w
 
 module _ {K : Kind} {z : RingSize} {need : ℕ} {low : 1 ≤ need} {high : need ≤ z.q} {w : World} {M : Meaning}
     (j : Joined K z need low high w M) (node : ℕ) (lives : Lives z w.ring node)
-    (gathers : (row_of w node).phase ≡ Gathering) where
+    (gathers : is_gathering (row_of w node).phase ≡ true) where
   -- the node is seen as gathering
   not_closing : not (is_gathering (row_of w node).phase) ≡ false
-  not_closing = ap (λ (phase : Phase). not (is_gathering phase)) gathers
+  not_closing = ap not gathers
 
   -- the mask of what it has not delivered is seen as that set
   undelivered_seen : has (undelivered (row_of w node)) ≡ (has (row_of w node).received ∖ has (row_of w node).delivered)
@@ -137,7 +136,7 @@ module _ {K : Kind} {z : RingSize} {need : ℕ} {low : 1 ≤ need} {high : need 
   closed_joined a b accepted both =
       let x = undelivered (row_of w node) in
       let l = letter_of node check_letter (row_of w node).stage (row_of w node).pending in
-      let row = with_phase Closing (row_of w node) in
+      let row = with_closed (row_of w node) in
       let change = becomes accepted l row in
       let parts = and_parts (has x a && has x b) (conflict K w a b) both in
       let members = and_parts (has x a) (has x b) parts.0 in
@@ -151,7 +150,8 @@ module _ {K : Kind} {z : RingSize} {need : ℕ} {low : 1 ≤ need} {high : need 
           sends = sends accepted l row;
           becomes = record {
             here = change.here
-                ∙ ap (λ (b : Bool). record (seen_node w.sheets node row) { proposed = b }) (sym (ap is_proposed gathers));
+                ∙ ap₂ (λ (c b : Bool). record (seen_node w.sheets node row) { closing = c; proposed = b })
+                (ap not (closed_gathers (row_of w node).phase)) (closed_proposed (row_of w node).phase);
             others = change.others;
           };
           chooser = same_chooser K w (closed w node) M;

@@ -14,7 +14,7 @@ use Rattle.rows.specs.Conflicts.{no_command, command_of}
 use Rattle.rows.specs.Settlements.{settle_refusal, decided_of}
 use Rattle.rows.specs.declared.refusal.Refusal.{Refusal}
 use Rattle.rows.specs.declared.row.Phase.{Phase}
-use Rattle.rows.specs.declared.row.Phase.TheVariants.{Gathering, Closing, Waiting}
+use Rattle.rows.specs.declared.row.Phase.TheVariants.{Gathering, Closing, Waiting, Ahead}
 use Rattle.rows.specs.declared.row.Row.{Row}
 use Rattle.rows.specs.declared.size.RingSize.{RingSize}
 use Rattle.ring.specs.World.{World, row_of, has_crashed, with_row, table_refusal, live_refusal}
@@ -101,6 +101,7 @@ module _ (K : Kind) (w : World) (M : Meaning) (node : ℕ) (v : World) (N : Mean
   phase_leaves Waiting r h =
       let decision = decision_for w M node in
       call_leaves (settle_refusal decision) (settled_by w node (decided_of decision)) w v h.1 (row_leaves w node _)
+  phase_leaves Ahead r h = gathering_leaves r h.0
 
   -- and one that is turned down before its phase matters
   cause_leaves : (o : Option Refusal) (r : Result Step Refusal) → ByCause o K w M node r v N → ledger v ≡ ledger w

@@ -21,6 +21,7 @@ use Rattle.rows.specs.declared.row.Phase.TheVariants.{Closing}
 use Rattle.rows.specs.declared.row.Row.{Row}
 use Rattle.rows.specs.declared.size.RingSize.{RingSize}
 use Rattle.rows.proofs.Masks.{those_lt}
+use Rattle.rows.proofs.Phases.{proposed_gathers, proposed_proposed}
 use Rattle.ring.specs.World.{World, quorum_of, row_of}
 use Rattle.ring.specs.Close.{proposed_by, Proposing}
 use Rattle.ring.specs.declared.step.Step.{Step}
@@ -157,8 +158,8 @@ module _ {K : Kind} {z : RingSize} {need : ℕ} {low : 1 ≤ need} {high : need 
               K w (proposed_by w node) low high _ _ (majority_seen enough) (rest_seen enough);
           becomes = record {
             here = row_seen w.sheets w.ring node (with_proposed row) (has_row f node lives.in_ring)
-                ∙ ap (λ (b : Bool). record (seen_node w.sheets node (with_proposed row)) { closing = b })
-                (sym (ap (λ (phase : Phase). not (is_gathering phase)) closing));
+                ∙ ap₂ (λ (c b : Bool). record (seen_node w.sheets node (with_proposed row)) { closing = c; proposed = b })
+                (ap not (proposed_gathers row.phase)) (proposed_proposed row.phase);
             others = λ x l d. other_seen w.sheets w.ring node (with_proposed row) x d;
           };
           silent = refl;

@@ -19,10 +19,11 @@ use Rattle.rows.specs.Settlements.{settle_refusal}
 use Rattle.rows.specs.declared.refusal.Refusal.{Refusal}
 use Rattle.rows.specs.declared.refusal.Refusal.TheVariants.{TrayFull, LaterStage, NodeCrashed, NothingNew, TooFewChecks}
 use Rattle.rows.specs.declared.row.Phase.{Phase}
-use Rattle.rows.specs.declared.row.Phase.TheVariants.{Gathering, Closing, Waiting}
+use Rattle.rows.specs.declared.row.Phase.TheVariants.{Gathering, Closing, Waiting, Ahead}
 use Rattle.rows.specs.declared.row.Row.{Row}
 use Rattle.rows.specs.declared.size.RingSize.{RingSize}
 use Rattle.ring.specs.World.{World, quorum_of, row_of, has_crashed, letter_at, letter_refusal}
+use Rattle.ring.specs.Gather.{gather_refusal}
 use Rattle.ring.specs.Receive.{receive_refusal, received}
 use Rattle.ring.specs.Step.{stepper_refusal}
 use Rattle.ring.specs.Promises.{lives, TurnedDown, Quiet}
@@ -98,23 +99,27 @@ beyond_stages stage l h = elim (and_cases (leb 1 stage) (leb stage 32) h) [
 
 -- ---- phases
 
--- a node that is not closing gathers
-gathering : (phase : Phase) → not (is_gathering phase) ≡ false → phase ≡ Gathering
-gathering Gathering h = refl
-gathering Closing h = absurd (true≢false h)
-gathering Waiting h = absurd (true≢false h)
+-- of a node that is not closing, the step is refused as that of one that gathers
+gathering : (w : World) (M : Meaning) (r : ℕ) (phase : Phase) → not (is_gathering phase) ≡ false
+    → Refused (phase_refusal phase w M r) → Refused (gather_refusal w r)
+gathering w M r Gathering h x = x
+gathering w M r Closing h x = absurd (true≢false h)
+gathering w M r Waiting h x = absurd (true≢false h)
+gathering w M r Ahead h x = x
 
 -- one that is, and has not proposed, closes
 closing : (phase : Phase) → not (is_gathering phase) ≡ true → is_proposed phase ≡ false → phase ≡ Closing
 closing Gathering h p = absurd (false≢true h)
 closing Closing h p = refl
 closing Waiting h p = absurd (true≢false p)
+closing Ahead h p = absurd (false≢true h)
 
--- and one that has waits
-waiting : (phase : Phase) → is_proposed phase ≡ true → phase ≡ Waiting
-waiting Gathering p = absurd (false≢true p)
-waiting Closing p = absurd (false≢true p)
-waiting Waiting p = refl
+-- and one that is, and has, waits
+waiting : (phase : Phase) → not (is_gathering phase) ≡ true → is_proposed phase ≡ true → phase ≡ Waiting
+waiting Gathering h p = absurd (false≢true p)
+waiting Closing h p = absurd (false≢true p)
+waiting Waiting h p = refl
+waiting Ahead h p = absurd (false≢true h)
 
 module _ {K : Kind} {z : RingSize} {need : ℕ} {low : 1 ≤ need} {high : need ≤ z.q} {w : World} {M : Meaning}
     (j : Joined K z need low high w M) where
@@ -136,10 +141,12 @@ module _ {K : Kind} {z : RingSize} {need : ℕ} {low : 1 ≤ need} {high : need 
     row = row_of w r
 
     -- the cause is one of its phase
+    of_phase : Refused (phase_refusal row.phase w M r)
+    of_phase = past_first (stepper_refusal w r) _ (step_allowed j.fine r l v) h
+
+    -- whichever that is
     in_phase : (phase : Phase) → row.phase ≡ phase → Refused (phase_refusal phase w M r)
-    in_phase phase p =
-        subst (λ (x : Phase). Refused (phase_refusal x w M r)) p
-        (past_first (stepper_refusal w r) _ (step_allowed j.fine r l v) h)
+    in_phase phase p = subst (λ (x : Phase). Refused (phase_refusal x w M r)) p of_phase
 
     -- a gathering node has acknowledged all that it has to deliver
     nothing_new : (m : ℕ) → not (is_gathering row.phase) ≡ false → m ∈ has row.received
@@ -148,7 +155,7 @@ module _ {K : Kind} {z : RingSize} {need : ℕ} {low : 1 ≤ need} {high : need 
         let b = bounds j r l in
         within_has (undelivered row) row.pending (minus_small row.received row.delivered b.received) b.pending
         (applies (within (undelivered row) row.pending) _ NothingNew
-        (in_phase Gathering (gathering row.phase g))) m
+        (gathering w M r row.phase g of_phase)) m
         (has_minus row.received row.delivered m b.received b.delivered ∙ and_from _ _ i (not_from_false _ o))
 
     -- one that has not proposed keeps too few checks, or its stage is beyond the chooser's, or it has
@@ -175,7 +182,7 @@ module _ {K : Kind} {z : RingSize} {need : ℕ} {low : 1 ≤ need} {high : need 
     no_settling : not (is_gathering row.phase) ≡ true → is_proposed row.phase ≡ true
         → (stands (M.decision row.stage) ≡ false) ⊎ (32 < row.stage)
     no_settling c p = elim (settling_refused row.stage (M.decision row.stage)
-        (in_phase Waiting (waiting row.phase p))) [
+        (in_phase Waiting (waiting row.phase c p))) [
           | inl f ↦ inl f
           | inr u ↦ inr (beyond_stages row.stage (j.ok.nodes r l).stage.first u)
         ]

@@ -15,7 +15,7 @@ use Rattle.rows.specs.Rows.{undelivered}
 use Rattle.rows.specs.Settlements.{settle_refusal, decided_of}
 use Rattle.rows.specs.declared.refusal.Refusal.{Refusal}
 use Rattle.rows.specs.declared.row.Phase.{Phase}
-use Rattle.rows.specs.declared.row.Phase.TheVariants.{Gathering, Closing, Waiting}
+use Rattle.rows.specs.declared.row.Phase.TheVariants.{Gathering, Closing, Waiting, Ahead}
 use Rattle.rows.specs.declared.row.Row.{Row}
 use Rattle.rows.proofs.Anys.{any_is}
 use Rattle.ring.specs.World.{World, quorum_of, row_of}
@@ -33,6 +33,7 @@ abbrev pub phase_refusal : Phase → World → Meaning → ℕ → Option Refusa
 phase_refusal Gathering w M node = gather_refusal w node
 phase_refusal Closing w M node = propose_refusal (quorum_of w.ring.size) node (row_of w node) M
 phase_refusal Waiting w M node = settle_refusal (decision_for w M node)
+phase_refusal Ahead w M node = gather_refusal w node
 
 -- all of them
 abbrev pub step_refusal : World → Meaning → ℕ → Option Refusal
@@ -232,6 +233,7 @@ module _ (K : Kind) (w : World) (M : Meaning) (sound : Sound M) (node : ℕ) whe
     sound = sound;
     refused = answer_refusal (settle_refusal (decision_for w M node)) Settled;
   }
+  phase_answers Ahead = gathering_answers (gather_refusal w node) refl
 
   -- by the cause that turns every step of the node down
   cause_answers : (o : Option Refusal) → Answers (ByCause o K w M node)

@@ -1,10 +1,11 @@
 -- Every step of a node keeps a world joined to the protocol.
-use Rattle.std.proofs.Common.{◌≡◌, ℕ, ◌≤◌, Some, None, Option, Result, sym, refl, subst}
+use Rattle.std.proofs.Common.{◌≡◌, ℕ, ◌≤◌, Some, None, Option, Result, sym, refl, ap, subst}
 use Rattle.record.specs.Kind.{Kind}
 use Rattle.chooser.specs.Meaning.{Meaning, Sound}
+use Rattle.rows.specs.Receipts.{is_gathering}
 use Rattle.rows.specs.declared.refusal.Refusal.{Refusal}
 use Rattle.rows.specs.declared.row.Phase.{Phase}
-use Rattle.rows.specs.declared.row.Phase.TheVariants.{Gathering, Closing, Waiting}
+use Rattle.rows.specs.declared.row.Phase.TheVariants.{Gathering, Closing, Waiting, Ahead}
 use Rattle.rows.specs.declared.size.RingSize.{RingSize}
 use Rattle.ring.specs.World.{World, row_of, table_refusal}
 use Rattle.ring.specs.Step.{ByPhase, ByCause, stepper_refusal, Steps}
@@ -22,9 +23,11 @@ module _ {K : Kind} {z : RingSize} {need : ℕ} {low : 1 ≤ need} {high : need 
   by_phase : Lives z w.ring node → (phase : Phase) → (row_of w node).phase ≡ phase
       → ByPhase K phase w M node r v N → Called K z need low high w M v N
   by_phase lives Gathering e h =
-      subst (Called K z need low high w M v) (sym h.1) (gathers_joined j node lives e r v h.0)
+      subst (Called K z need low high w M v) (sym h.1) (gathers_joined j node lives (ap is_gathering e) r v h.0)
   by_phase lives Closing e h = proposing_joined j node lives e r v N h sound
   by_phase lives Waiting e h = settling_joined j node lives e r v N h
+  by_phase lives Ahead e h =
+      subst (Called K z need low high w M v) (sym h.1) (gathers_joined j node lives (ap is_gathering e) r v h.0)
 
   -- by the cause that turns the step down, or none
   by_cause : (cause : Option Refusal) → stepper_refusal w node ≡ cause → ByCause cause K w M node r v N

@@ -5,11 +5,10 @@ use Rattle.rows.specs.Causes.{refuse}
 use Rattle.rows.specs.Conflicts.{conflicted, clash}
 use Rattle.rows.specs.Letters.{acknowledgement, check_letter, letter_of, sent, no_room}
 use Rattle.rows.specs.Masks.{within}
-use Rattle.rows.specs.Rows.{undelivered, with_pending, with_phase}
+use Rattle.rows.specs.Rows.{undelivered, with_pending, with_closed}
 use Rattle.rows.specs.declared.letter.Letter.{Letter}
 use Rattle.rows.specs.declared.refusal.Refusal.{Refusal}
 use Rattle.rows.specs.declared.refusal.Refusal.TheVariants.{NothingNew, TrayFull}
-use Rattle.rows.specs.declared.row.Phase.TheVariants.{Closing}
 use Rattle.rows.specs.declared.row.Row.{Row}
 use Rattle.ring.specs.World.{World, nodes_of, row_of, with_row, with_used}
 use Rattle.ring.specs.declared.step.Step.{Step}
@@ -40,7 +39,7 @@ acknowledged w node =
 abbrev pub closed : World → ℕ → World
 closed w node =
     sending w node (letter_of node check_letter (row_of w node).stage (row_of w node).pending)
-    (with_phase Closing (row_of w node))
+    (with_closed (row_of w node))
 
 -- A gathering step: its answer and the world after it. Only which two conflicting messages a closing names is left open.
 abbrev pub Gathers : (Command → Command → Bool) → World → ℕ → Result Step Refusal → World → Type 0

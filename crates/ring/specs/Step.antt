@@ -5,7 +5,7 @@ use Rattle.chooser.specs.Meaning.{Meaning}
 use Rattle.rows.specs.Causes.{first}
 use Rattle.rows.specs.declared.refusal.Refusal.{Refusal}
 use Rattle.rows.specs.declared.row.Phase.{Phase}
-use Rattle.rows.specs.declared.row.Phase.TheVariants.{Gathering, Closing, Waiting}
+use Rattle.rows.specs.declared.row.Phase.TheVariants.{Gathering, Closing, Waiting, Ahead}
 use Rattle.ring.specs.World.{World, row_of, table_refusal, live_refusal}
 use Rattle.ring.specs.Gather.{Gathers}
 use Rattle.ring.specs.Close.{Proposing, Settling}
@@ -16,6 +16,7 @@ abbrev pub ByPhase : Kind → Phase → World → Meaning → ℕ → Result Ste
 ByPhase K Gathering w M node r v N = Gathers K.conflicts w node r v × (N ≡ M)
 ByPhase K Closing w M node r v N = Proposing w M node r v N
 ByPhase K Waiting w M node r v N = Settling w M node r v N
+ByPhase K Ahead w M node r v N = Gathers K.conflicts w node r v × (N ≡ M)
 
 -- by the cause that turns every step of the node down, or none
 abbrev pub ByCause : Option Refusal → Kind → World → Meaning → ℕ → Result Step Refusal → World → Meaning → Type 0

@@ -37,7 +37,7 @@ impl Ring {
         let size = self.with_live_node(node)?;
         // Stays a match: the phase is data, and each of the three steps takes other parameters.
         match self.nodes[usize::from(node)].row.phase {
-            Phase::Gathering => self.gather::<R>(tray, book, size, node),
+            Phase::Gathering | Phase::Ahead => self.gather::<R>(tray, book, size, node),
             Phase::Closing => self.propose(chooser, size, node),
             Phase::Waiting => self.settle(sheets, chooser, node),
         }

@@ -1,5 +1,6 @@
 pub mod Anys
 pub mod Clashes
 pub mod Masks
+pub mod Phases
 pub mod Receiving
 pub mod Writing

@@ -7,7 +7,7 @@ use Rattle.rows.specs.Rows.{no_check, on_sheet, sheet_end, with_received, with_h
 use Rattle.rows.specs.declared.letter.Letter.{Letter}
 use Rattle.rows.specs.declared.row.Check.{Check}
 use Rattle.rows.specs.declared.row.Phase.{Phase}
-use Rattle.rows.specs.declared.row.Phase.TheVariants.{Gathering, Closing, Waiting}
+use Rattle.rows.specs.declared.row.Phase.TheVariants.{Gathering, Closing, Waiting, Ahead}
 use Rattle.rows.specs.declared.row.Row.{Row}
 
 -- ---- data
@@ -59,12 +59,14 @@ abbrev pub is_gathering : Phase → Bool
 is_gathering Gathering = true
 is_gathering Closing = false
 is_gathering Waiting = false
+is_gathering Ahead = true
 
 -- whether the node has proposed in this stage
 abbrev pub is_proposed : Phase → Bool
 is_proposed Gathering = false
 is_proposed Closing = false
 is_proposed Waiting = true
+is_proposed Ahead = true
 
 -- an acknowledgement counts while its receiver gathers, if it is of the receiver's stage and of a node of the ring
 abbrev pub counts : ℕ → Letter → Row → Bool

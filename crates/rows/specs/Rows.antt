@@ -3,7 +3,7 @@ use Rattle.std.specs.Prelude.{ℕ, ◌+◌, ◌*◌, List, [], set, replicate, b
 use Rattle.rows.specs.Masks.{minus}
 use Rattle.rows.specs.declared.row.Check.{Check}
 use Rattle.rows.specs.declared.row.Phase.{Phase}
-use Rattle.rows.specs.declared.row.Phase.TheVariants.{Gathering, Waiting}
+use Rattle.rows.specs.declared.row.Phase.TheVariants.{Gathering, Closing, Waiting, Ahead}
 use Rattle.rows.specs.declared.row.Row.{Row}
 
 -- an unused place among the checks
@@ -128,6 +128,24 @@ with_phase phase row = record {
   phase = phase;
 }
 
+-- what closing makes of a phase: nothing forgets a proposal
+abbrev pub closed_phase : Phase → Phase
+closed_phase Gathering = Closing
+closed_phase Closing = Closing
+closed_phase Waiting = Waiting
+closed_phase Ahead = Waiting
+
+-- what proposing makes of a phase: whoever gathers goes on gathering
+abbrev pub proposed_phase : Phase → Phase
+proposed_phase Gathering = Ahead
+proposed_phase Closing = Waiting
+proposed_phase Waiting = Waiting
+proposed_phase Ahead = Ahead
+
+-- having closed the stage
+abbrev pub with_closed : Row → Row
+with_closed row = with_phase (closed_phase row.phase) row
+
 -- having proposed
 abbrev pub with_proposed : Row → Row
-with_proposed row = with_phase Waiting row
+with_proposed row = with_phase (proposed_phase row.phase) row

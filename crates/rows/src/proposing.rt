@@ -2,7 +2,7 @@ ghost use Rattle.rows.specs.Proposals.{PutsForward};
 
 use crate::mask::without;
 use crate::refusal::Refusal;
-use crate::row::{Phase, Row};
+use crate::row::Row;
 use crate::size::RingSize;
 use crate::tally::in_most;
 use chooser::chooser::Chooser;
@@ -25,7 +25,7 @@ impl Row {
         let nonconflicting = in_most(&self.checks[..usize::from(size.q)]);
         let conflicting = without(self.undelivered(), nonconflicting);
         chooser.propose(self.stage, node, (nonconflicting, conflicting))?;
-        self.phase = Phase::Waiting;
+        self.phase = self.phase.proposed();
         Ok(())
     }
 }

@@ -1,6 +1,7 @@
 ghost use Rattle.std.specs.Prelude.{◌≡◌};
-ghost use Rattle.rows.specs.Rows.{at_stage, new_row, undelivered, with_pending, with_phase};
-ghost use Rattle.rows.specs.declared.row.Phase.TheVariants.{Closing};
+ghost use Rattle.rows.specs.Rows.{at_stage, new_row, undelivered, with_pending};
+ghost use Rattle.rows.specs.Rows.{closed_phase, proposed_phase, with_closed};
+ghost use Rattle.rows.specs.Receipts.{is_proposed};
 
 use crate::mask::without;
 
@@ -11,6 +12,37 @@ pub enum Phase {
     Gathering,
     Closing,
     Waiting,
+    // it gathers, and has proposed ahead of closing: no step of a ring leads here
+    Ahead,
+}
+
+impl Phase {
+    // Whether a node in it has proposed in its stage.
+    pub fn has_proposed(self) -> bool
+        ensures { result ≡ is_proposed self }
+    {
+        matches!(self, Phase::Waiting | Phase::Ahead)
+    }
+
+    // The phase after closing: whoever has proposed has still proposed.
+    pub(crate) fn closed(self) -> Phase
+        ensures { result ≡ closed_phase self }
+    {
+        match self {
+            Phase::Gathering | Phase::Closing => Phase::Closing,
+            Phase::Waiting | Phase::Ahead => Phase::Waiting,
+        }
+    }
+
+    // The phase after proposing: whoever gathers goes on gathering.
+    pub(crate) fn proposed(self) -> Phase
+        ensures { result ≡ proposed_phase self }
+    {
+        match self {
+            Phase::Gathering | Phase::Ahead => Phase::Ahead,
+            Phase::Closing | Phase::Waiting => Phase::Waiting,
+        }
+    }
 }
 
 // A check that a node keeps: who sent it, and what that node had acknowledged when it closed the stage.
@@ -84,8 +116,8 @@ impl Row {
 
     // Closes the stage.
     pub fn close(&mut self)
-        ensures { self.new ≡ with_phase Closing self.old }
+        ensures { self.new ≡ with_closed self.old }
     {
-        self.phase = Phase::Closing;
+        self.phase = self.phase.closed();
     }
 }

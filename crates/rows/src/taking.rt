@@ -96,7 +96,7 @@ impl Row {
     {
         match (LetterKind::try_from(letter.kind), self.phase) {
             (Ok(LetterKind::Data), _) => self.received |= letter.set,
-            (Ok(LetterKind::Acknowledgement), Phase::Gathering)
+            (Ok(LetterKind::Acknowledgement), Phase::Gathering | Phase::Ahead)
                 if letter.stage == self.stage && letter.sender < size.n => {
                 self.hear_acknowledgement(size.q, letter, sheets, at)
             }
