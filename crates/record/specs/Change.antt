@@ -1,5 +1,5 @@
 -- What may happen to a player's rounds.
-use Rattle.std.specs.Prelude.{Bool, true, false, List}
+use Rattle.std.specs.Prelude.{Bool, true, List}
 use Rattle.record.specs.Card.{posted, adjusted, in_range}
 use Rattle.record.specs.declared.rounds.card.Round.{Round}
 use Rattle.record.specs.declared.rounds.order.Change.{Change}
@@ -13,7 +13,3 @@ fits (Adjust d) = true
 abbrev pub changed_by : Change → List Round → List Round
 changed_by (Post r) xs = posted r xs
 changed_by (Adjust d) xs = adjusted d xs
-
-abbrev pub is_adjustment : Change → Bool
-is_adjustment (Post r) = false
-is_adjustment (Adjust d) = true

@@ -16,7 +16,11 @@ pub(crate) fn reached_by(heard: &[u8; 64], q: u8) -> u64
 fn holders(checks: &[Check], m: u8) -> usize
     ensures { result ≡ count_by (λ c. has c.set m) checks.now }
 {
-    checks.iter().filter(|c| has_bit(c.set, m)).count()
+    let mut count = 0;
+    for check in checks {
+        count += usize::from(has_bit(check.set, m));
+    }
+    count
 }
 
 // The messages in more than half of the checks.

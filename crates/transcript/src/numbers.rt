@@ -10,7 +10,11 @@ fn with_digit(number: u16, byte: u8, limit: u16) -> Option<u16>
         return None;
     }
     let longer = 10 * u32::from(number) + u32::from(byte - b'0');
-    u16::try_from(longer).ok().filter(|longer| *longer <= limit)
+    if longer <= u32::from(limit) {
+        Some(longer as u16)
+    } else {
+        None
+    }
 }
 
 // The number that a word writes, up to a limit.

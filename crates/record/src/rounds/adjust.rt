@@ -3,13 +3,13 @@ ghost use Rattle.record.specs.Card.{clamped, adjusted};
 
 use super::card::Round;
 
-const END: i16 = 9_999;
+const END: i32 = 9_999;
 
 // The amount with the adjustment added, no further than either end.
 fn adjust_amount(amount: i16, by: i16) -> i16
     ensures { result ≡ clamped (amount +ℤ by) }
 {
-    amount.saturating_add(by).clamp(-END, END)
+    (i32::from(amount) + i32::from(by)).clamp(-END, END) as i16
 }
 
 // Adds the adjustment to each round.

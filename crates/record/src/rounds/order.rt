@@ -47,14 +47,3 @@ impl TryFrom<Command> for Order {
         }
     }
 }
-
-impl Order {
-    ghost use Rattle.record.specs.Change.{is_adjustment};
-
-    // Whether the order adjusts its player's rounds.
-    pub(super) fn adjusts(self) -> bool
-        ensures { result ≡ is_adjustment self.change }
-    {
-        matches!(self.change, Change::Adjust(_))
-    }
-}

@@ -7,7 +7,7 @@ ghost use Rattle.record.specs.Tables.{table_tells};
 
 use super::Rounds;
 use super::card::Card;
-use super::order::Order;
+use super::order::{Change, Order};
 use crate::command::{Command, Unlawful};
 use crate::record::Record;
 use std::alloc::{AllocError, Global};
@@ -33,9 +33,15 @@ impl Record for Rounds {
     }
 
     fn in_conflict(a: Command, b: Command) -> bool {
-        match (Order::try_from(a), Order::try_from(b)) {
-            (Ok(a), Ok(b)) => a.player == b.player && (a.adjusts() || b.adjusts()),
-            _ => true,
+        let Ok(a) = Order::try_from(a) else {
+            return true;
+        };
+        let Ok(b) = Order::try_from(b) else {
+            return true;
+        };
+        match (a.change, b.change) {
+            (Change::Post(_), Change::Post(_)) => false,
+            _ => a.player == b.player,
         }
     }
 
