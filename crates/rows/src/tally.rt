@@ -13,6 +13,7 @@ pub(crate) fn reached_by(heard: &[u8; 64], q: u8) -> u64
 }
 
 // How many of the checks have the message.
+// Stays a count: `filter(..).count()` takes twice the instructions, and of `map(..).sum()` it stayed open that the sum fits.
 fn holders(checks: &[Check], m: u8) -> usize
     ensures { result ≡ count_by (λ c. has c.set m) checks.now }
 {

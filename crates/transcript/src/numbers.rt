@@ -10,6 +10,7 @@ fn with_digit(number: u16, byte: u8, limit: u16) -> Option<u16>
         return None;
     }
     let longer = 10 * u32::from(number) + u32::from(byte - b'0');
+    // Stays a cast: a `try_from` before the test takes half as many instructions again, at each digit.
     if longer <= u32::from(limit) {
         Some(longer as u16)
     } else {
